@@ -1,0 +1,3 @@
+pub mod Long
+pub mod Narrow
+pub mod Normal

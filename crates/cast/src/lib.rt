@@ -1,0 +1,150 @@
+ghost use mathlib.Core.Path.{_≡_};
+ghost use mathlib.Core.Bool.{true, false, cond};
+ghost use lib.IntN.{pos, negsuc};
+ghost use lib.Dec.{T};
+ghost use lib.Ieee as Ieee;
+ghost use lib.Ieee.{fin, binary32, binary64};
+ghost use Rattle.cast.specs.Narrow.{narrowOf};
+
+// ---- whole numbers to floats: the nearest, a tie to the even one
+
+pub fn u64_to_f32(n: u64) -> f32
+    ensures { λ r. ⌜ r ≡ Ieee.ofInt binary32 (pos n) ⌝ }
+{
+    if n < 16777216 {
+        return n as f32;
+    }
+    let k = 40 - (u64::leading_zeros(n) as u64);
+    let q = ieee::closest_shift(n, k);
+    ieee::from_units(k + 149, q)
+}
+
+pub fn u32_to_f32(n: u32) -> f32
+    ensures { λ r. ⌜ r ≡ Ieee.ofInt binary32 (pos n) ⌝ }
+{
+    u64_to_f32(n as u64)
+}
+
+pub fn u32_to_f64(n: u32) -> f64
+    ensures { λ r. ⌜ r ≡ Ieee.ofInt binary64 (pos n) ⌝ }
+{
+    n as f64
+}
+
+pub fn u64_to_f64(n: u64) -> f64
+    ensures { λ r. ⌜ r ≡ Ieee.ofInt binary64 (pos n) ⌝ }
+{
+    std::num::nearest_u64_to_f64(n)
+}
+
+pub fn i64_to_f64(n: i64) -> f64
+    ensures { λ r. ⌜ r ≡ Ieee.ofInt binary64 n ⌝ }
+{
+    std::num::nearest_i64_to_f64(n)
+}
+
+// ---- between the formats
+
+// Every f32 is an f64.
+pub fn f32_to_f64(x: f32) -> f64
+    ensures { λ r. ⌜ r ≡ x ⌝ }
+{
+    std::num::f32_to_f64_with_nan(x)
+}
+
+// Rust's `x as f32` for an x above zero, subnormal and infinite results included.
+fn narrow_above(x: f64) -> f32
+    requires { ⌜ T (Ieee.lt (fin false 0 (pos 0)) x) ⌝ }
+    ensures { λ r. ⌜ r ≡ narrowOf x ⌝ }
+{
+    let bits: u64 = f64::to_bits(x);
+    let field: u64 = bits >> 52;
+    if field < 863 {
+        return 0.0;
+    }
+    if 1150 < field {
+        return 1.0 / 0.0;
+    }
+    let digits: u64 = (bits & 0xf_ffff_ffff_ffff) | 0x10_0000_0000_0000;
+    if field < 897 {
+        let q = ieee::closest_shift(digits, 926 - field);
+        return ieee::from_units(0, q);
+    }
+    let q = ieee::closest_shift(digits, 29);
+    ieee::from_units(field - 897, q)
+}
+
+// The same for every x.
+fn narrow_any(x: f64) -> f32
+    ensures { λ r. ⌜ r ≡ narrowOf x ⌝ }
+{
+    if x > 0.0 {
+        return narrow_above(x);
+    }
+    if x < 0.0 {
+        return -narrow_above(-x);
+    }
+    if x == x {
+        return x as f32;
+    }
+    0.0 / 0.0
+}
+
+// x's size. A NaN stays.
+fn size(x: f64) -> f64
+    ensures { λ r. ⌜ r ≡ cond (Ieee.lt (fin false 0 (pos 0)) x) x (Ieee.neg x) ⌝ }
+{
+    if x > 0.0 { x } else { -x }
+}
+
+// Where the result is a normal number, the pattern's last 29 digits are rounded away: what is left is exactly an f32.
+fn narrow_normal(x: f64) -> f32
+    requires { ⌜ T (Ieee.lt (fin false 1 (negsuc 125)) (cond (Ieee.lt (fin false 0 (pos 0)) x) x (Ieee.neg x))) ⌝ ∗ ⌜ T (Ieee.lt (cond (Ieee.lt (fin false 0 (pos 0)) x) x (Ieee.neg x)) (fin false 1 (pos 127))) ⌝ }
+    ensures { λ r. ⌜ r ≡ narrowOf x ⌝ }
+{
+    let bits: u64 = f64::to_bits(x);
+    let up = bits + (268435455 + (bits >> 29) % 2);
+    f64::from_bits((up >> 29) << 29) as f32
+}
+
+// Rust's `x as f32`: the nearest, a tie to the even one, an infinity where it is too large.
+pub fn f64_to_f32(x: f64) -> f32
+    ensures { λ r. ⌜ r ≡ narrowOf x ⌝ }
+{
+    let m = size(x);
+    if m < 170141183460469231731687303715884105728.0 {
+        if m > 1.1754943508222875e-38 {
+            return narrow_normal(x);
+        }
+    }
+    narrow_any(x)
+}
+
+// ---- floats to whole numbers, toward zero: 0 for a NaN, the nearest end of the range where it is out of it
+
+pub fn f32_to_u64(x: f32) -> u64
+    ensures { λ r. ⌜ r ≡ Ieee.toUnsigned 64 x ⌝ }
+{
+    if x >= 18446744073709551616.0 {
+        return 0xffff_ffff_ffff_ffff;
+    }
+    if x > 0.0 {
+        return std::num::truncating_f32_to_u64(x);
+    }
+    0
+}
+
+pub fn f64_to_i64(x: f64) -> i64
+    ensures { λ r. ⌜ r ≡ Ieee.toSigned 63 x ⌝ }
+{
+    if x >= 9223372036854775808.0 {
+        return 9223372036854775807;
+    }
+    if x >= -9223372036854775808.0 {
+        return std::num::truncating_f64_to_i64(x);
+    }
+    if x == x {
+        return -9223372036854775807 - 1;
+    }
+    0
+}

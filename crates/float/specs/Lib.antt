@@ -1,0 +1,4 @@
+pub mod Whole
+pub mod Order
+pub mod Euclid
+pub mod Cases

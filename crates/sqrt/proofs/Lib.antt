@@ -1,0 +1,4 @@
+pub mod Squares
+pub mod Scaled
+pub mod Casts
+pub mod Roots
