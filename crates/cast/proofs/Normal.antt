@@ -127,8 +127,7 @@ kept y F P a b =
     let lo : 2 ^ 23 ≤ Q = subst (λ (z : ℕ). 2 ^ 23 ≤ z) (sym (with-lead t)) (least (closest t (2 ^ 29))) in
     let same : closest B (2 ^ 29) * 2 ^ 29 ≡ j * 2 ^ 52 + Q * 2 ^ 29 = ap (λ (z : ℕ). z * 2 ^ 29) (rounded B) ∙ join e j (closest t (2 ^ 29)) (g .1) ∙ ap (λ (z : ℕ). j * 2 ^ 52 + z * 2 ^ 29) (sym (with-lead t)) in
     let wide : units binary64 false (Q * 2 ^ 29) j ≡ units binary32 false Q (e - 897) = widened Q j (e - 897) (r .small) (g .3) (shift e j (g .1) (g .2)) in
-    let small : j * 2 ^ 52 + Q * 2 ^ 29 < 2 ^ 63 = room j Q (g .3) (r .small) in
-    (
+    let small : j * 2 ^ 52 + Q * 2 ^ 29 < 2 ^ 63 = room j Q (g .3) (r .small) in (
       ap (λ (z : ℕ). ofBits binary64 z) same ∙ build binary64 (Q * 2 ^ 29) j (inr (up29 Q lo)) (down29 Q (r .small)) (top j (g .3)) ∙ wide ∙ r .gives,
       subst (λ (z : ℕ). z < 2 ^ 63) (sym same) small,
       number (narrowOf y) (Q * 2 ^ (e - 897)) (2 ^ 149) (subst (λ (z : Float). HasValue z false (Q * 2 ^ (e - 897)) (2 ^ 149)) (r .gives) (units-val binary32 false Q (e - 897) (under Q (e - 897) (r .small) (few e j (g .1) (g .3))))),

@@ -1,4 +1,5 @@
 pub mod Whole
 pub mod Order
 pub mod Euclid
+pub mod Single
 pub mod Cases

@@ -260,7 +260,11 @@ pub fn rem_euclid(x: f32, y: f32) -> f32
 pub fn from_bits(b: u32) -> f32
     ensures { λ r. ⌜ r ≡ Ieee.ofBits binary32 b ⌝ }
 {
-    if 2139095040 < b % 2147483648 { 0.0 / 0.0 } else { f32::from_bits(b) }
+    if 2139095040 < b % 2147483648 {
+        0.0 / 0.0
+    } else {
+        f32::from_bits(b)
+    }
 }
 
 pub fn to_bits(x: f32) -> u32
@@ -272,11 +276,19 @@ pub fn to_bits(x: f32) -> u32
 pub fn from_bits_f64(b: u64) -> f64
     ensures { λ r. ⌜ r ≡ Ieee.ofBits binary64 b ⌝ }
 {
-    if 9218868437227405312 < b % 9223372036854775808 { 0.0 / 0.0 } else { f64::from_bits(b) }
+    if 9218868437227405312 < b % 9223372036854775808 {
+        0.0 / 0.0
+    } else {
+        f64::from_bits(b)
+    }
 }
 
 pub fn to_bits_f64(x: f64) -> u64
     ensures { λ r. ⌜ r ≡ Ieee.toBits binary64 x ⌝ }
 {
-    if x != x { 0x7ff8_0000_0000_0000 } else { f64::to_bits(x) }
+    if x != x {
+        0x7ff8_0000_0000_0000
+    } else {
+        f64::to_bits(x)
+    }
 }

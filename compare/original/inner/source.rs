@@ -1,0 +1,86 @@
+use super::*;
+use crate::dsp::inner::state;
+use crate::streaming::at_rate;
+
+fn once(src: &mut Src, t: usize, pitch: f32) -> f32 {
+    let mut out = [0.0];
+    src.process(&mut out, t, &[pitch]);
+    out[0]
+}
+pub fn sine([f, pitch, srf, phase]: [f32; 4]) -> [f32; 2] {
+    let mut src = Src::Sine { phase, freq: Val::Const(f), srf };
+    let out = once(&mut src, 0, pitch);
+    let Src::Sine { phase, .. } = src else { panic!() };
+    [out, phase]
+}
+pub fn square([f, duty, pitch, srf, phase]: [f32; 5]) -> [f32; 2] {
+    let mut src = Src::Square { phase, freq: Val::Const(f), duty: Val::Const(duty), srf };
+    let out = once(&mut src, 0, pitch);
+    let Src::Square { phase, .. } = src else { panic!() };
+    [out, phase]
+}
+pub fn saw([f, pitch, srf, phase]: [f32; 4]) -> [f32; 2] {
+    let mut src = Src::Saw { phase, freq: Val::Const(f), srf };
+    let out = once(&mut src, 0, pitch);
+    let Src::Saw { phase, .. } = src else { panic!() };
+    [out, phase]
+}
+pub fn triangle([f, pitch, srf, phase, tri]: [f32; 5]) -> [f32; 3] {
+    let mut src = Src::Tri { phase, tri, freq: Val::Const(f), srf };
+    let out = once(&mut src, 0, pitch);
+    let Src::Tri { phase, tri, .. } = src else { panic!() };
+    [out, phase, tri]
+}
+pub fn fm([f, index, ratio, pitch, srf, cph, mph]: [f32; 7]) -> [f32; 3] {
+    let mut src = Src::Fm { cph, mph, freq: Val::Const(f), index: Val::Const(index), ratio, srf };
+    let out = once(&mut src, 0, pitch);
+    let Src::Fm { cph, mph, .. } = src else { panic!() };
+    [out, cph, mph]
+}
+/// One voice at the whole scale. f is the pitch of a frequency of 1, so that it can be any number.
+pub fn super_voice(wave: SuperWave, [f, ratio, srf, phase]: [f32; 4]) -> [f32; 2] {
+    let freq = Val::Const(1.0);
+    let mut src = Src::Super { wave, freq, phases: vec![phase], ratios: vec![ratio], scale: 1.0, srf };
+    let out = once(&mut src, 0, f);
+    let Src::Super { phases, .. } = src else { panic!() };
+    [out, phases[0]]
+}
+pub fn impact_built(hardness: f32, velocity: f32, sr: u32) -> (usize, f32) {
+    match try_src(&Node::Impact { hardness, velocity }, &at_rate(sr, 1), 0) {
+        Some(Src::Impact { w, norm }) => (w, norm),
+        _ => panic!(),
+    }
+}
+pub fn impact(w: usize, norm: f32, t: usize) -> f32 {
+    once(&mut Src::Impact { w, norm }, t, 1.0)
+}
+fn noise(word: u64, kind: NoiseKind) -> (f32, u64, NoiseKind) {
+    let mut src = Src::Noise { rng: Rng::new(word), kind };
+    let out = once(&mut src, 0, 1.0);
+    let Src::Noise { rng, kind } = src else { panic!() };
+    (out, state(&rng), kind)
+}
+pub fn white(word: u64) -> (f32, u64) {
+    let (out, word, _) = noise(word, NoiseKind::White);
+    (out, word)
+}
+pub fn pink(word: u64, b: [f32; 7]) -> (f32, u64, [f32; 7]) {
+    let (out, word, NoiseKind::Pink { b }) = noise(word, NoiseKind::Pink { b }) else { panic!() };
+    (out, word, b)
+}
+pub fn brown(word: u64, last: f32) -> (f32, u64, f32) {
+    let (out, word, NoiseKind::Brown { last }) = noise(word, NoiseKind::Brown { last }) else { panic!() };
+    (out, word, last)
+}
+pub fn dust_built(density: f32, decay: f32, sr: u32) -> (f32, f32) {
+    match try_src(&Node::Dust { density, decay }, &at_rate(sr, 1), 0) {
+        Some(Src::Dust { p, g, .. }) => (p, g),
+        _ => panic!(),
+    }
+}
+pub fn dust(word: u64, p: f32, g: f32, y: f32) -> (f32, u64, f32) {
+    let mut src = Src::Dust { rng: Rng::new(word), p, g, y };
+    let out = once(&mut src, 0, 1.0);
+    let Src::Dust { rng, y, .. } = src else { panic!() };
+    (out, state(&rng), y)
+}

@@ -1,0 +1,119 @@
+-- A block of samples: a step taken once for each, in order, the k-th with its own inputs. A step takes the state and gives a sample and the next state.
+use mathlib.Core.Path.{_≡_, refl, sym, ap, _∙_}
+use mathlib.Core.List.{List, [], _∷_, _++_, append-assoc, append-nil}
+use Prim.Native.Nat.{ℕ, zero, suc, _+_, _<_}
+use native.Mathlib.Nat.{add-zero, add-suc}
+use native.Mathlib.Numerals.{add-one}
+use native.Mathlib.Omega.{arith}
+use lib.ListN.{length, getD, length-append}
+use Rattle.tree.specs.Comm.{M, blk, later}
+use Rattle.tree.specs.Block.{tab, length-tab, getD-tab}
+
+module _ {S A : Type 0} where
+  -- the state after n samples
+  unfoldable pub after : (ℕ → S → A × S) → S → ℕ → S
+  after f s zero = s
+  after f s (suc n) = f n (after f s n) .1
+
+  -- sample k, and the first n samples
+  abbrev pub sampleAt : (ℕ → S → A × S) → S → ℕ → A
+  sampleAt f s k = f k (after f s k) .0
+
+  unfoldable pub given : (ℕ → S → A × S) → S → ℕ → List A
+  given f s n = tab n (sampleAt f s)
+
+  -- the steps from the m-th on
+  abbrev pub from : ℕ → (ℕ → S → A × S) → ℕ → S → A × S
+  from m f k s = f (m + k) s
+
+  -- ---- the empty block, one sample more, as many samples as steps
+  pub after-none : (f : ℕ → S → A × S) (s : S) → after f s 0 ≡ s
+  unfolding after
+  after-none f s = refl
+
+  pub given-none : (f : ℕ → S → A × S) (s : S) → given f s 0 ≡ []
+  unfolding given tab
+  given-none f s = refl
+
+  pub after-more : (f : ℕ → S → A × S) (s : S) (n : ℕ) → after f s (n + 1) ≡ f n (after f s n) .1
+  unfolding after
+  after-more f s n = rw add-one
+
+  pub given-more : (f : ℕ → S → A × S) (s : S) (n : ℕ) → given f s (n + 1) ≡ given f s n ++ (sampleAt f s n ∷ [])
+  unfolding given tab
+  given-more f s n = rw add-one
+
+  pub given-length : (f : ℕ → S → A × S) (s : S) (n : ℕ) → length (given f s n) ≡ n
+  unfolding given
+  given-length f s n = length-tab n (sampleAt f s)
+
+  pub given-at : (f : ℕ → S → A × S) (s : S) (n k : ℕ) (d : A) → k < n → getD (given f s n) k d ≡ sampleAt f s k
+  unfolding given
+  given-at f s n k d h = getD-tab n (sampleAt f s) k d h
+
+  -- ---- a block cut in two
+  pub after-cut : (f : ℕ → S → A × S) (s : S) (m n : ℕ) → after f s (m + n) ≡ after (from m f) (after f s m) n
+  unfolding after
+  after-cut f s m zero = rw add-zero
+  after-cut f s m (suc n) = ap (after f s) (add-suc m n) ∙ ap (λ (u : S). f (m + n) u .1) (after-cut f s m n)
+
+  pub given-cut : (f : ℕ → S → A × S) (s : S) (m n : ℕ) → given f s (m + n) ≡ given f s m ++ given (from m f) (after f s m) n
+  unfolding given tab
+  given-cut f s m zero = rw add-zero (sym (append-nil (tab m (sampleAt f s))))
+  given-cut f s m (suc n) =
+      ap (λ (k : ℕ). tab k (sampleAt f s)) (add-suc m n)
+      ∙ ap (λ (l : List A). l ++ (sampleAt f s (m + n) ∷ [])) (given-cut f s m n)
+      ∙ append-assoc (tab m (sampleAt f s)) (tab n (sampleAt (from m f) (after f s m))) (sampleAt f s (m + n) ∷ [])
+      ∙ ap (λ (u : S). tab m (sampleAt f s) ++ (tab n (sampleAt (from m f) (after f s m)) ++ (f (m + n) u .0 ∷ []))) (after-cut f s m n)
+
+  -- ---- steps that agree below n
+  pub after-same : (f g : ℕ → S → A × S) (s : S) (n : ℕ) → ((k : ℕ) → k < n → (u : S) → f k u ≡ g k u) → after f s n ≡ after g s n
+  unfolding after
+  after-same f g s zero e = refl
+  after-same f g s (suc n) e = ap (λ (u : S). f n u .1) (after-same f g s n (λ k h. e k (omega arith))) ∙ ap (λ (p : A × S). p .1) (e n (omega arith) (after g s n))
+
+  pub given-same : (f g : ℕ → S → A × S) (s : S) (n : ℕ) → ((k : ℕ) → k < n → (u : S) → f k u ≡ g k u) → given f s n ≡ given g s n
+  unfolding given tab
+  given-same f g s zero e = refl
+  given-same f g s (suc n) e =
+      (λ i. given-same f g s n (λ k h. e k (omega arith)) i ++ (one i ∷ []))
+    where
+      one : sampleAt f s n ≡ sampleAt g s n
+      one = ap (λ (u : S). f n u .0) (after-same f g s n (λ k h. e k (omega arith))) ∙ ap (λ (p : A × S). p .0) (e n (omega arith) (after g s n))
+
+-- ---- the same steps on another state, of which the first is a part
+module _ {S U A : Type 0} (φ : S → U) (f : ℕ → S → A × S) (g : ℕ → U → A × U) (e : (k : ℕ) (s : S) → g k (φ s) ≡ (f k s .0, φ (f k s .1))) where
+  pub after-part : (s : S) (n : ℕ) → after g (φ s) n ≡ φ (after f s n)
+  unfolding after
+  after-part s zero = refl
+  after-part s (suc n) = ap (λ (u : U). g n u .1) (after-part s n) ∙ ap (λ (p : A × U). p .1) (e n (after f s n))
+
+  pub given-part : (s : S) (n : ℕ) → given g (φ s) n ≡ given f s n
+  unfolding given tab
+  given-part s zero = refl
+  given-part s (suc n) = λ i. given-part s n i ++ (one i ∷ [])
+    where
+      one : sampleAt g (φ s) n ≡ sampleAt f s n
+      one = ap (λ (u : U). g n u .0) (after-part s n) ∙ ap (λ (p : A × U). p .0) (e n (after f s n))
+
+-- ---- as the theory of trees has it: inputs in a list, moments one after another
+module _ {T S X A : Type 0} (nx : T → T) (f : T → X → M S A) (d : X) where
+  abbrev pub stepsOf : T → List X → ℕ → S → A × S
+  stepsOf t xs k s = f (later nx k t) (getD xs k d) s
+
+  shifted : (t : T) (x : X) (xs : List X) (k : ℕ) (s : S) → stepsOf t (x ∷ xs) (1 + k) s ≡ stepsOf (nx t) xs k s
+  unfolding later
+  shifted t x xs k s = let e : 1 + k ≡ suc k = omega arith in rw e
+
+  pub blk-is : (t : T) (xs : List X) (s : S) → blk nx f t xs s ≡ (given (stepsOf t xs) s (length xs), after (stepsOf t xs) s (length xs))
+  unfolding blk given after tab later
+  blk-is t [] s = refl
+  blk-is t (x ∷ xs) s =
+      let u = f t x s .1 in
+      let more : 1 + length xs ≡ suc (length xs) = omega arith in
+      ap {B = List A × S} (λ p. (f t x s .0 ∷ p .0, p .1)) (blk-is (nx t) xs u)
+      ∙ sym
+      (λ i. (
+        (ap (given (stepsOf t (x ∷ xs)) s) (sym more) ∙ given-cut (stepsOf t (x ∷ xs)) s 1 (length xs) ∙ ap (λ (l : List A). f t x s .0 ∷ l) (given-same (from 1 (stepsOf t (x ∷ xs))) (stepsOf (nx t) xs) u (length xs) (λ k h v. shifted t x xs k v))) i,
+        (ap (after (stepsOf t (x ∷ xs)) s) (sym more) ∙ after-cut (stepsOf t (x ∷ xs)) s 1 (length xs) ∙ after-same (from 1 (stepsOf t (x ∷ xs))) (stepsOf (nx t) xs) u (length xs) (λ k h v. shifted t x xs k v)) i,
+      ))

@@ -1,0 +1,23 @@
+-- The player's controls, and what document 01 says of a move of pitch or bend.
+use mathlib.Core.Bool.{cond}
+use lib.Ieee.{Float, isNan, binary32, ofBits}
+use Rattle.float.specs.Order.{maxOf, clampOf}
+use Rattle.float.specs.Single.{_⊕_, _⊖_, _⊗_, zero, one}
+use Rattle.control.specs.declared.Controls.{Controls}
+
+unfoldable pub fresh : Controls
+fresh = record { position = 0; pitch = one; target = one; glide = one; bend = one }
+
+-- in a sample the pitch goes by the part `glide` of the way to its target
+abbrev pub glided : Float → Float → Float → Float
+glided pitch target glide = pitch ⊕ (target ⊖ pitch) ⊗ glide
+
+-- a NaN counts as 1; else from 2 ^ -126, the smallest normal number, to 1
+unfoldable pub glideOf : Float → Float
+glideOf coefficient = cond (isNan coefficient) one (clampOf coefficient (ofBits binary32 0x0080_0000) one)
+
+unfoldable pub pitchMoved : Controls → Float → Float → Controls
+pitchMoved c scale coefficient = record { position = c .position; pitch = c .pitch; target = maxOf scale zero; glide = glideOf coefficient; bend = c .bend }
+
+unfoldable pub bendMoved : Controls → Float → Controls
+bendMoved c bend = record { position = c .position; pitch = c .pitch; target = c .target; glide = c .glide; bend = bend }

@@ -1,0 +1,4 @@
+pub mod Tests
+pub mod Power
+pub mod Parts
+pub mod Small

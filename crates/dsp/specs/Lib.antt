@@ -1,0 +1,5 @@
+pub mod Random
+pub mod Math
+pub mod Envelope
+pub mod Coefficients
+pub mod Cases

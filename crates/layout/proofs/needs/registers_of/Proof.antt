@@ -1,0 +1,19 @@
+-- `layout::needs::registers_of` meets its contract. By cases. Assumes nothing.
+use mathlib.Core.Path.{_≡_, sym, _∙_}
+use native.Mathlib.Omega.{arith}
+use lib.ListN.{getD, List·getD-eq-default}
+use Rattle.layout.specs.Counts.{registers-fixed, registersTable}
+use borrow.Author.Needs.{needs}
+use Rattle.layout.proofs.needs.registers_of.Statement.{statement}
+use Rattle.layout.proofs.needs.registers_of.Tie as tie
+
+returns : tie.Need-returns
+returns c = registers-fixed ((c .before) .args .k)
+
+returns-2 : tie.Need-returns-2
+returns-2 c =
+    let s = c .before in
+    let z : getD registersTable (s .args .k) 0 ≡ 0 = List·getD-eq-default registersTable 0 {n = c .before .args .k} (omega arith) in (sym z ∙ registers-fixed (s .args .k) .0, omega arith)
+
+pub registers-of-spec : {M : Type 1} → statement M
+registers-of-spec = tie.close (tie.spec (λ c. search needs) (λ c. search needs) returns returns-2)

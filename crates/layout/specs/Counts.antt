@@ -1,0 +1,233 @@
+-- The needs by numbers alone, as the code works them out: a table for the kinds whose need is fixed, and the six whose cells depend on more.
+use mathlib.Core.Path.{_≡_, refl, sym, ap, _∙_}
+use mathlib.Core.Bool.{Bool, true, false, cond, _&&_}
+use mathlib.Core.List.{List, [], _∷_}
+use mathlib.Core.Logic.{_≢_}
+use Prim.Native.Nat.{ℕ, zero, suc, _+_, _-_, _*_, _≤_, _<_, min, max}
+use native.Mathlib.Omega.{arith}
+use native.Mathlib.Decide.{decLt, ℕ-discrete}
+use borrow.Author.Tests.{eqb-true, leb-true, ne-eqb}
+use lib.Dec.{eqb, leb}
+use lib.ListN.{length, getD, set, length-set, List·getD-eq-default}
+use Rattle.tree.specs.Tree.{Tree, nil, node}
+use Rattle.tree.specs.Flat.{Layout, Rows}
+use Rattle.sheet.specs.Record.{countOf, rateOf, optionOf, bitsOf, numberOf, recordAt, kind, first, next}
+use Rattle.sheet.specs.Tree.{records, spine}
+use Rattle.sheet.specs.Checks.{all, sum}
+use Rattle.sheet.specs.Laws.{all-at, sum-suc}
+use Rattle.lines.specs.Lines.{delayLine, chorusLine}
+use Rattle.layout.specs.Built.{role, built, isBuilt}
+use Rattle.layout.specs.Needs.{Need, needs, needOf, voicesOf, noiseCells, reverbCells, chainLength, cellsBy, registersBy, scratchBy, cells, registers, scratch, cellsFrom, registersFrom, scratchFrom}
+use Rattle.layout.specs.Good.{Good, good, and-left, and-right}
+use Rattle.layout.specs.Tables.{Table, Passed, roleCode, codeRole, role-code, code-unbuilt, code-built, next-entry, Below, front-more}
+use Rattle.layout.specs.Owners.{records-none, records-some, along}
+
+-- ---- cells: the rows, with what Super, Noise, Delay, Reverb, Modal and Chorus need
+abbrev pub cellRows : ℕ → ℕ → ℕ → ℕ → ℕ → ℕ → List Need
+cellRows v c d b m h =
+    needs 1 1 ∷ needs 2 1 ∷ needs 3 1 ∷ needs 4 2 ∷ needs 5 2 ∷ needs 6 v ∷ needs 9 c ∷ needs 10 1
+    ∷ needs 22 11 ∷ needs 23 11 ∷ needs 24 11 ∷ needs 25 11 ∷ needs 26 11 ∷ needs 27 11 ∷ needs 28 11
+    ∷ needs 29 d ∷ needs 30 b ∷ needs 31 m ∷ needs 32 4 ∷ needs 34 h ∷ needs 35 4 ∷ needs 46 3 ∷ []
+
+abbrev pub cellsWith : List ℕ → ℕ → ℕ → ℕ → ℕ
+cellsWith r rate k m =
+    needOf k (cellRows (2 * voicesOf r) (noiseCells (optionOf r)) (delayLine (numberOf r 0) rate) (reverbCells rate) (5 * m) (chorusLine (numberOf r 1) rate))
+
+pub cells-with : (s : List ℕ) (i : ℕ) → cellsBy s i ≡ cellsWith (recordAt s i) (rateOf s) (kind s i) (chainLength s i)
+unfolding cellsBy
+cells-with s i = refl
+
+pub noise-other : (c : ℕ) → c ≢ 0 → c ≢ 1 → noiseCells c ≡ 1
+noise-other zero a b = absurd (a refl)
+noise-other (suc zero) a b = absurd (b refl)
+noise-other (suc (suc c)) a b = refl
+
+-- the kinds whose cells are fixed
+abbrev pub cellsTable : List ℕ
+cellsTable = 0 ∷ 1 ∷ 1 ∷ 1 ∷ 2 ∷ 2 ∷ 0 ∷ 0 ∷ 0 ∷ 0 ∷ 1 ∷ 0 ∷ 0 ∷ 0 ∷ 0 ∷ 0 ∷ 0 ∷ 0 ∷ 0 ∷ 0 ∷ 0 ∷ 0 ∷ 11 ∷ 11 ∷ 11 ∷ 11 ∷ 11 ∷ 11 ∷ 11 ∷ 0 ∷ 0 ∷ 0 ∷ 4 ∷ 0 ∷ 0 ∷ 4 ∷ 0 ∷ 0 ∷ 0 ∷ 0 ∷ 0 ∷ 0 ∷ 0 ∷ 0 ∷ 0 ∷ 0 ∷ 3 ∷ []
+
+abbrev pub registersTable : List ℕ
+registersTable = 0 ∷ 0 ∷ 0 ∷ 0 ∷ 0 ∷ 0 ∷ 0 ∷ 0 ∷ 0 ∷ 1 ∷ 1 ∷ 0 ∷ 0 ∷ 0 ∷ 0 ∷ 0 ∷ 0 ∷ 0 ∷ 0 ∷ 0 ∷ 0 ∷ 0 ∷ 0 ∷ 0 ∷ 0 ∷ 0 ∷ 0 ∷ 0 ∷ 0 ∷ 1 ∷ 10 ∷ 0 ∷ 0 ∷ 0 ∷ 1 ∷ 0 ∷ 0 ∷ 0 ∷ 0 ∷ 0 ∷ 0 ∷ 0 ∷ 0 ∷ 0 ∷ 0 ∷ 0 ∷ 1 ∷ []
+
+abbrev pub registerRows : List Need
+registerRows = needs 9 1 ∷ needs 10 1 ∷ needs 29 1 ∷ needs 30 10 ∷ needs 34 1 ∷ needs 46 1 ∷ []
+
+abbrev pub scratchRows : List Need
+scratchRows = needs 11 256 ∷ needs 12 256 ∷ []
+
+abbrev pub registersWith : ℕ → ℕ
+registersWith k = needOf k registerRows
+
+abbrev pub scratchWith : ℕ → ℕ
+scratchWith k = needOf k scratchRows
+
+pub registers-with : (s : List ℕ) (i : ℕ) → registersBy s i ≡ registersWith (kind s i)
+unfolding registersBy
+registers-with s i = refl
+
+pub scratch-with : (s : List ℕ) (i : ℕ) → scratchBy s i ≡ scratchWith (kind s i)
+unfolding scratchBy
+scratch-with s i = refl
+
+-- ---- a table's rule: a test at each entry, and past the entries no row has the number
+low : List Need → Bool
+low [] = true
+low (needs j n ∷ rest) = leb j 46 && low rest
+
+need-past : (rs : List Need) (k : ℕ) → low rs ≡ true → 47 ≤ k → needOf k rs ≡ 0
+unfolding needOf low
+need-past [] k e h = refl
+need-past (needs j n ∷ rest) k e h =
+    let l = leb-true j 46 (and-left (leb j 46) (low rest) e) in
+    rw (ne-eqb j k (λ q. omega arith)) (need-past rest k (and-right (leb j 46) (low rest) e) h)
+
+module _ (rows : List Need) (table : List ℕ) where
+  test : ℕ → Bool
+  test k = eqb (getD table k 0) (needOf k rows) && leb (getD table k 0) 11
+
+  table-is : length table ≡ 47 → low rows ≡ true → all test 47 ≡ true → (k : ℕ) → (getD table k 0 ≡ needOf k rows) × (getD table k 0 ≤ 11)
+  unfolding test
+  table-is l e t k = elim (decLt k 47) [
+    | yes h ↦
+        let b = all-at test 47 t k h in
+        (eqb-true _ _ (and-left (eqb (getD table k 0) (needOf k rows)) (leb (getD table k 0) 11) b), leb-true _ _ (and-right (eqb (getD table k 0) (needOf k rows)) (leb (getD table k 0) 11) b))
+    | no h ↦
+        let z : getD table k 0 ≡ 0 = List·getD-eq-default table 0 {n = k} (omega arith) in
+        (z ∙ sym (need-past rows k e (omega arith)), omega arith)
+  ]
+
+pub registers-fixed : (k : ℕ) → (getD registersTable k 0 ≡ registersWith k) × (getD registersTable k 0 ≤ 11)
+unfolding all test needOf low
+registers-fixed k = table-is registerRows registersTable refl refl refl k
+
+pub cells-fixed : (k : ℕ) → (getD cellsTable k 0 ≡ needOf k (cellRows 0 0 0 0 0 0)) × (getD cellsTable k 0 ≤ 11)
+unfolding all test needOf low
+cells-fixed k = table-is (cellRows 0 0 0 0 0 0) cellsTable refl refl refl k
+
+pub cells-other : (k : ℕ) → 6 ≢ k → 9 ≢ k → 29 ≢ k → 30 ≢ k → 31 ≢ k → 34 ≢ k → (v c d b m h : ℕ) → needOf k (cellRows 0 0 0 0 0 0) ≡ needOf k (cellRows v c d b m h)
+unfolding needOf
+cells-other k n6 n9 n29 n30 n31 n34 v c d b m h = rw (ne-eqb 6 k n6, ne-eqb 9 k n9, ne-eqb 29 k n29, ne-eqb 30 k n30, ne-eqb 31 k n31, ne-eqb 34 k n34)
+
+-- a chain's length counts for Modal only
+no-modes : (k : ℕ) → 31 ≢ k → (r : List ℕ) (rate m n : ℕ) → cellsWith r rate k m ≡ cellsWith r rate k n
+unfolding needOf
+no-modes k d r rate m n = rw (ne-eqb 31 k d)
+
+pub cells-is : (s : List ℕ) (i m : ℕ) → (kind s i ≡ 31 → m ≡ chainLength s i) → cellsWith (recordAt s i) (rateOf s) (kind s i) m ≡ cellsBy s i
+cells-is s i m e = elim (ℕ-discrete 31 (kind s i)) [
+  | yes q ↦ ap (cellsWith (recordAt s i) (rateOf s) (kind s i)) (e (sym q)) ∙ sym (cells-with s i)
+  | no d ↦ no-modes (kind s i) d (recordAt s i) (rateOf s) m (chainLength s i) ∙ sym (cells-with s i)
+]
+
+-- a need of record i, by numbers for its kind and its role
+pub registers-is : (s : List ℕ) (i k r : ℕ) → k ≡ kind s i → r ≡ roleCode (role s i) → cond (isBuilt (codeRole r)) (registersWith k) 0 ≡ registers s i
+registers-is s i k r ek er = rw (ek, er, role-code (role s i), registers-with s i)
+
+pub scratch-is : (s : List ℕ) (i k r : ℕ) → k ≡ kind s i → r ≡ roleCode (role s i) → cond (isBuilt (codeRole r)) (scratchWith k) 0 ≡ scratch s i
+scratch-is s i k r ek er = rw (ek, er, role-code (role s i), scratch-with s i)
+
+-- a built record's needs are its kind's
+pub cells-built : (s : List ℕ) (i : ℕ) → role s i ≡ built → cells s i ≡ cellsBy s i
+cells-built s i r = rw r
+
+pub registers-built : (s : List ℕ) (i : ℕ) → role s i ≡ built → registers s i ≡ registersBy s i
+registers-built s i r = rw r
+
+pub scratch-built : (s : List ℕ) (i : ℕ) → role s i ≡ built → scratch s i ≡ scratchBy s i
+scratch-built s i r = rw r
+
+pub cells-none : (s : List ℕ) (i r : ℕ) → r ≡ roleCode (role s i) → r < 2 → cells s i ≡ 0
+cells-none s i r er h = rw (sym (role-code (role s i)), ← er, code-unbuilt r h)
+
+pub cells-some : (s : List ℕ) (i r : ℕ) → r ≡ roleCode (role s i) → 2 ≤ r → cells s i ≡ cellsBy s i
+cells-some s i r er h = rw (sym (role-code (role s i)), ← er, code-built r h)
+
+pub cells-made : (s : List ℕ) (i k f r rate m x : ℕ) (part : List ℕ) → part ≡ recordAt s i → rate ≡ rateOf s → k ≡ kind s i → f ≡ first s i → r ≡ roleCode (role s i) → 2 ≤ r
+    → (k ≡ 31 → m ≡ length (spine (records s f))) → x ≡ cellsWith part rate k m → x ≡ cells s i
+cells-made s i k f r rate m x part ep et ek ef er h em e =
+    e ∙ ap (λ p. cellsWith p rate k m) ep ∙ ap (λ t. cellsWith (recordAt s i) t k m) et ∙ ap (λ k. cellsWith (recordAt s i) (rateOf s) k m) ek
+    ∙ cells-is s i m (λ q. em (ek ∙ q) ∙ ap (λ f. length (spine (records s f))) ef) ∙ sym (cells-some s i r er h)
+
+-- ---- a chain's length
+module _ (s : List ℕ) (g : Good s) where
+  pub long-none : length (spine (records s 0)) ≡ 0
+  unfolding spine
+  long-none = rw (records-none s g)
+
+  pub long-some : (j : ℕ) → j ≢ 0 → j < countOf s → length (spine (records s j)) ≡ suc (length (spine (records s (next s j))))
+  unfolding spine
+  long-some j d h = ap (λ t. length (spine t)) (records-some s g j d h)
+
+  pub long-most : (j : ℕ) → j < countOf s → length (spine (records s j)) ≤ 256
+  long-most j h = elim (ℕ-discrete j 0) [
+    | yes z ↦ rw (ap (λ j. length (spine (records s j))) z ∙ long-none) (omega arith)
+    | no d ↦ omega (arith, g .small, along s g (λ j. j ≢ 0 → length (spine (records s j)) + j ≤ countOf s) (λ d. absurd (d refl)) turn j h d)
+  ]
+    where
+      turn : (i : ℕ) → i ≢ 0 → i < countOf s → (next s i ≢ 0 → length (spine (records s (next s i))) + next s i ≤ countOf s) → i ≢ 0 → length (spine (records s i)) + i ≤ countOf s
+      turn i d h f _ = elim (ℕ-discrete (next s i) 0) [
+        | yes e ↦ omega (arith, long-some i d h, ap (λ j. length (spine (records s j))) e, long-none)
+        | no n ↦ omega (arith, long-some i d h, f n, g .forest .next-up i n)
+      ]
+
+-- the same by a table of nexts
+pub walk-turn : (s : List ℕ) (n : ℕ) → Passed s n → (nexts : List ℕ) → Table (next s) n nexts → (j : ℕ) → j ≢ 0 → j < n
+    → (length (spine (records s j)) ≡ suc (length (spine (records s (getD nexts j 0))))) × (getD nexts j 0 < n)
+walk-turn s n a nexts w j d h =
+    let g = good s (a .passed) in
+    (long-some s g j d (omega (arith, a .count)) ∙ ap (λ k. suc (length (spine (records s k)))) (sym (w .at j h)), next-entry s n a nexts w j h)
+
+pub walk-done : (s : List ℕ) (n : ℕ) → Passed s n → (j : ℕ) → j ≡ 0 → length (spine (records s j)) ≡ 0
+walk-done s n a j e = ap (λ k. length (spine (records s k))) e ∙ long-none s (good s (a .passed))
+
+pub walk-most : (s : List ℕ) (n : ℕ) → Passed s n → (j : ℕ) → j < n → length (spine (records s j)) ≤ 256
+walk-most s n a j h = long-most s (good s (a .passed)) j (omega (arith, a .count))
+
+-- ---- where the parts lie
+-- what lies below a place ends where a higher record's begins
+pub sum-above : (f : ℕ → ℕ) (n j : ℕ) → j < n → sum f j + f j ≤ sum f n
+unfolding sum
+sum-above f zero j h = let x : ⊥ = omega arith in absurd x
+sum-above f (suc n) j h = elim (ℕ-discrete j n) [ yes q ↦ rw q (omega arith) | no d ↦ omega (arith, sum-above f n j (omega arith)) ]
+
+-- what each record owns of the cells and the registers; no two own the same, and neither do two blocks of scratch overlap
+abbrev pub layoutOf : List ℕ → Layout
+layoutOf s = record { co = cellsFrom s; cn = cells s; ro = registersFrom s; rn = registers s }
+
+pub rows-of : (s : List ℕ) → Rows (layoutOf s)
+unfolding sum
+rows-of s = record { cells = λ j. omega arith; regs = λ j. omega arith }
+
+pub scratch-rows : (s : List ℕ) (j : ℕ) → scratchFrom s j + scratch s j ≤ scratchFrom s (suc j)
+unfolding sum
+scratch-rows s j = omega arith
+
+-- all within what the sheet needs
+pub cells-within : (s : List ℕ) (j : ℕ) → j < countOf s → cellsFrom s j + cells s j ≤ cellsFrom s (countOf s)
+cells-within s j h = sum-above (cells s) (countOf s) j h
+
+pub registers-within : (s : List ℕ) (j : ℕ) → j < countOf s → registersFrom s j + registers s j ≤ registersFrom s (countOf s)
+registers-within s j h = sum-above (registers s) (countOf s) j h
+
+pub scratch-within : (s : List ℕ) (j : ℕ) → j < countOf s → scratchFrom s j + scratch s j ≤ scratchFrom s (countOf s)
+scratch-within s j h = sum-above (scratch s) (countOf s) j h
+
+-- ---- tables of places
+pub record Placed (s : List ℕ) (n : ℕ) (cs rs ss : List ℕ) (c r x : ℕ) : Type 0 where
+  pub cells-at : Table (cellsFrom s) (n + 1) cs
+  pub registers-at : Table (registersFrom s) (n + 1) rs
+  pub scratch-at : Table (scratchFrom s) (n + 1) ss
+  pub cells-all : c ≡ cellsFrom s n
+  pub registers-all : r ≡ registersFrom s n
+  pub scratch-all : x ≡ scratchFrom s n
+  pub cells-most : c ≤ 1474560000
+  pub registers-most : r ≤ 2816
+  pub scratch-most : x ≤ 65536
+
+pub sums-turn : (f : ℕ → ℕ) (t : List ℕ) (i at v : ℕ) → i < length t → Below (sum f) i t → at ≡ sum f i → v ≡ f i → Below (sum f) (i + 1) (set t i at) × (at + v ≡ sum f (i + 1))
+sums-turn f t i at v h w e d = (front-more (sum f) t i at h w e, rw (sum-suc, e, d))
+
+pub sums-done : (f : ℕ → ℕ) (t : List ℕ) (n i at : ℕ) → n ≤ i → i ≤ n → n < length t → Below (sum f) i t → at ≡ sum f i → Table (sum f) (n + 1) (set t i at) × (at ≡ sum f n)
+sums-done f t n i at h g l w e =
+    let q : i ≡ n = omega arith in
+    (record { long = rw length-set (omega arith); at = λ k b. front-more (sum f) t i at (omega arith) w e k (omega arith) }, e ∙ ap (sum f) q)

@@ -1,0 +1,216 @@
+// Tables over the records of an accepted sheet of `count` records, each written by one pass over those below it. The sheet itself is not read: it says what the tables hold.
+ghost use mathlib.Core.Path.{_≡_};
+ghost use Prim.Native.Nat.{_≤_};
+ghost use lib.ListN.{length};
+ghost use Rattle.sheet.specs.Record.{kind, first, next};
+ghost use Rattle.layout.specs.Built.{owner, trailing, role, begin, after};
+ghost use Rattle.layout.specs.Roles.{stageFrom};
+ghost use Rattle.layout.specs.Tables.{Table, Passed, flag, roleCode, trailsOf, stageOf, roleOf, rootOf, beginOf, afterOf};
+
+// In whose chain each record stands. A link of 0 writes to entry 0, which nothing reads and the end sets.
+pub fn owners(sheet: &[u8], count: usize, firsts: &[usize], nexts: &[usize], owned: &mut [usize])
+    requires { ⌜ Passed (now sheet) count × Table (first (now sheet)) count (now firsts) × Table (next (now sheet)) count (now nexts) × (count ≤ length (now owned)) ⌝ }
+    ensures { λ r. ⌜ Table (owner (now (sheet .entry))) count (now (owned .exit)) ⌝ }
+{
+    let mut i = 0usize;
+    while i < count {
+        let f = firsts[i];
+        owned[f] = i;
+        let o = owned[i];
+        let n = nexts[i];
+        owned[n] = o;
+        i += 1;
+    }
+    owned[0] = 0;
+}
+
+// Whether only processors stand after a record, by the one that does: its number, its kind and its own entry.
+fn trails(n: usize, k: u8, t: u8) -> u8
+    ensures { λ r. ⌜ r ≡ trailsOf n k t ⌝ }
+{
+    if n == 0 {
+        return 1;
+    }
+    if sheet::kinds::is_processor(k) { t } else { 0 }
+}
+
+fn stage_at(t: u8, j: usize, f: usize) -> usize
+    ensures { λ r. ⌜ r ≡ stageOf t j f ⌝ }
+{
+    if t == 1 { j } else { f }
+}
+
+// Whether only processors stand after each record, and from which stage the chain that begins at it is built. Links climb, so the pass goes down.
+pub fn stages(
+    sheet: &[u8],
+    count: usize,
+    kinds: &[u8],
+    nexts: &[usize],
+    lasts: &mut [u8],
+    froms: &mut [usize],
+)
+    requires { ⌜ Passed (now sheet) count × Table (kind (now sheet)) count (now kinds) × Table (next (now sheet)) count (now nexts) × (count ≤ length (now lasts)) × (count ≤ length (now froms)) ⌝ }
+    ensures { λ r. ⌜ Table (λ j. flag (trailing (now (sheet .entry)) j)) count (now (lasts .exit)) × Table (stageFrom (now (sheet .entry))) count (now (froms .exit)) ⌝ }
+{
+    let mut j = count;
+    while 0 < j {
+        j -= 1;
+        let n = nexts[j];
+        let t = trails(n, kinds[n], lasts[n]);
+        lasts[j] = t;
+        let f = stage_at(t, j, froms[n]);
+        froms[j] = f;
+    }
+}
+
+fn root_role(k: u8) -> u8
+    ensures { λ r. ⌜ r ≡ rootOf k ⌝ }
+{
+    if sheet::kinds::is_processor(k) { 1 } else { 2 }
+}
+
+// A record's role by its owner's role r and kind o, its own kind k, and whether only processors stand after it.
+fn role_in(r: u8, o: u8, k: u8, t: u8) -> u8
+    ensures { λ x. ⌜ x ≡ roleOf r o k t ⌝ }
+{
+    if r < 2 {
+        return 0;
+    }
+    if o == 11 {
+        return root_role(k);
+    }
+    if o == 12 {
+        return root_role(k);
+    }
+    if o == 13 {
+        return if t == 1 { 2 } else { 0 };
+    }
+    2
+}
+
+// Each record's role: 0 out, 1 silent, 2 built. Owners stand below, so the pass goes up.
+pub fn roles(
+    sheet: &[u8],
+    count: usize,
+    kinds: &[u8],
+    owned: &[usize],
+    lasts: &[u8],
+    acts: &mut [u8],
+)
+    requires { ⌜ Passed (now sheet) count × Table (kind (now sheet)) count (now kinds) × Table (owner (now sheet)) count (now owned) × Table (λ j. flag (trailing (now sheet) j)) count (now lasts) × (count ≤ length (now acts)) ⌝ }
+    ensures { λ r. ⌜ Table (λ j. roleCode (role (now (sheet .entry)) j)) count (now (acts .exit)) ⌝ }
+{
+    acts[0] = root_role(kinds[0]);
+    let mut j = 1usize;
+    while j < count {
+        let o = owned[j];
+        let r = role_in(acts[o], kinds[o], kinds[j], lasts[j]);
+        acts[j] = r;
+        j += 1;
+    }
+}
+
+fn begin_at(r: u8, k: u8, f: usize, st: usize) -> usize
+    ensures { λ x. ⌜ x ≡ beginOf r k f st ⌝ }
+{
+    if r < 2 {
+        return 0;
+    }
+    if k == 13 { st } else { f }
+}
+
+fn after_at(r: u8, n: usize) -> usize
+    ensures { λ x. ⌜ x ≡ afterOf r n ⌝ }
+{
+    if r == 0 { 0 } else { n }
+}
+
+// The links of what is played.
+pub fn links(
+    sheet: &[u8],
+    count: usize,
+    kinds: &[u8],
+    firsts: &[usize],
+    nexts: &[usize],
+    froms: &[usize],
+    acts: &[u8],
+    begins: &mut [usize],
+    afters: &mut [usize],
+)
+    requires { ⌜ Passed (now sheet) count × Table (kind (now sheet)) count (now kinds) × Table (first (now sheet)) count (now firsts) × Table (next (now sheet)) count (now nexts) × Table (stageFrom (now sheet)) count (now froms) × Table (λ j. roleCode (role (now sheet) j)) count (now acts) × (count ≤ length (now begins)) × (count ≤ length (now afters)) ⌝ }
+    ensures { λ r. ⌜ Table (begin (now (sheet .entry))) count (now (begins .exit)) × Table (after (now (sheet .entry))) count (now (afters .exit)) ⌝ }
+{
+    let mut i = 0usize;
+    while i < count {
+        let f = firsts[i];
+        begins[i] = begin_at(acts[i], kinds[i], f, froms[f]);
+        afters[i] = after_at(acts[i], nexts[i]);
+        i += 1;
+    }
+}
+
+fn plan_in(
+    sheet: &[u8],
+    count: usize,
+    kinds: &[u8],
+    firsts: &[usize],
+    nexts: &[usize],
+    owned: &mut [usize],
+    lasts: &mut [u8],
+    froms: &mut [usize],
+    acts: &mut [u8],
+    begins: &mut [usize],
+    afters: &mut [usize],
+)
+    requires { ⌜ Passed (now sheet) count × Table (kind (now sheet)) count (now kinds) × Table (first (now sheet)) count (now firsts) × Table (next (now sheet)) count (now nexts) ⌝ }
+    requires { ⌜ (count ≤ length (now owned)) × (count ≤ length (now lasts)) × (count ≤ length (now froms)) × (count ≤ length (now acts)) × (count ≤ length (now begins)) × (count ≤ length (now afters)) ⌝ }
+    ensures { λ r. ⌜ Table (λ j. roleCode (role (now (sheet .entry)) j)) count (now (acts .exit)) × Table (begin (now (sheet .entry))) count (now (begins .exit)) × Table (after (now (sheet .entry))) count (now (afters .exit)) ⌝ }
+{
+    owners(sheet, count, firsts, nexts, owned);
+    stages(sheet, count, kinds, nexts, lasts, froms);
+    roles(sheet, count, kinds, owned, lasts, acts);
+    links(
+        sheet,
+        count,
+        kinds,
+        firsts,
+        nexts,
+        froms,
+        acts,
+        begins,
+        afters,
+    );
+}
+
+// Each record's role, and the links of what is played.
+pub fn plan(
+    sheet: &[u8],
+    count: usize,
+    kinds: &[u8],
+    firsts: &[usize],
+    nexts: &[usize],
+    acts: &mut [u8],
+    begins: &mut [usize],
+    afters: &mut [usize],
+)
+    requires { ⌜ Passed (now sheet) count × Table (kind (now sheet)) count (now kinds) × Table (first (now sheet)) count (now firsts) × Table (next (now sheet)) count (now nexts) ⌝ }
+    requires { ⌜ (count ≤ length (now acts)) × (count ≤ length (now begins)) × (count ≤ length (now afters)) ⌝ }
+    ensures { λ r. ⌜ Table (λ j. roleCode (role (now (sheet .entry)) j)) count (now (acts .exit)) × Table (begin (now (sheet .entry))) count (now (begins .exit)) × Table (after (now (sheet .entry))) count (now (afters .exit)) ⌝ }
+{
+    let mut owned = [0usize; 256];
+    let mut lasts = [0u8; 256];
+    let mut froms = [0usize; 256];
+    plan_in(
+        sheet,
+        count,
+        kinds,
+        firsts,
+        nexts,
+        &mut owned,
+        &mut lasts,
+        &mut froms,
+        acts,
+        begins,
+        afters,
+    );
+}

@@ -1,0 +1,363 @@
+// What the built records of an accepted sheet need, and where each one's parts begin.
+ghost use mathlib.Core.Path.{_≡_};
+ghost use mathlib.Core.Bool.{cond};
+ghost use Prim.Native.Nat.{_+_, _*_, _≤_, _<_, min, max};
+ghost use lib.ListN.{length};
+ghost use Rattle.sheet.specs.Record.{countOf, rateOf, kind, first, next};
+ghost use Rattle.sheet.specs.Tree.{records, spine};
+ghost use Rattle.sheet.specs.Checks.{sum};
+ghost use Rattle.lines.specs.Lines.{combLine, allpassLine};
+ghost use Rattle.layout.specs.Built.{role, isBuilt};
+ghost use Rattle.layout.specs.Needs.{needOf, noiseCells, reverbCells, cells, cellsFrom, registersFrom, scratchFrom};
+ghost use Rattle.layout.specs.Tables.{Table, Passed, roleCode, codeRole};
+ghost use Rattle.layout.specs.Counts.{cellRows, cellsWith, registersWith, scratchWith, Placed};
+
+// By kind: the cells of those that need a fixed number, and the registers.
+const CELLS: [u64; 47] = [
+    0,
+    1,
+    1,
+    1,
+    2,
+    2,
+    0,
+    0,
+    0,
+    0,
+    1,
+    0,
+    0,
+    0,
+    0,
+    0,
+    0,
+    0,
+    0,
+    0,
+    0,
+    0,
+    11,
+    11,
+    11,
+    11,
+    11,
+    11,
+    11,
+    0,
+    0,
+    0,
+    4,
+    0,
+    0,
+    4,
+    0,
+    0,
+    0,
+    0,
+    0,
+    0,
+    0,
+    0,
+    0,
+    0,
+    3,
+];
+
+const REGISTERS: [u64; 47] = [
+    0,
+    0,
+    0,
+    0,
+    0,
+    0,
+    0,
+    0,
+    0,
+    1,
+    1,
+    0,
+    0,
+    0,
+    0,
+    0,
+    0,
+    0,
+    0,
+    0,
+    0,
+    0,
+    0,
+    0,
+    0,
+    0,
+    0,
+    0,
+    0,
+    1,
+    10,
+    0,
+    0,
+    0,
+    1,
+    0,
+    0,
+    0,
+    0,
+    0,
+    0,
+    0,
+    0,
+    0,
+    0,
+    0,
+    1,
+];
+
+pub struct Needs {
+    pub cells: u64,
+    pub registers: u64,
+    pub scratch: u64,
+}
+
+// Super's voices, 1 to 16.
+pub fn voices(n: u32) -> u64
+    ensures { λ r. ⌜ (r ≡ max 1 (min n 16)) × (r ≤ 16) ⌝ }
+{
+    if n < 1 {
+        return 1;
+    }
+    if n < 16 { n as u64 } else { 16 }
+}
+
+fn noise(colour: u8) -> u64
+    ensures { λ r. ⌜ (r ≡ noiseCells colour) × (r ≤ 7) ⌝ }
+{
+    if colour == 0 {
+        return 0;
+    }
+    if colour == 1 { 7 } else { 1 }
+}
+
+fn combs(rate: u32) -> u64
+    requires { ⌜ rate ≤ 192000 ⌝ }
+    ensures { λ r. ⌜ (r ≡ sum (λ k. combLine k rate) 6) × (r ≤ 38946) ⌝ }
+{
+    let mut n = 0u64;
+    let mut k = 0u64;
+    while k < 6 {
+        n += lines::comb_len(k, rate);
+        k += 1;
+    }
+    n
+}
+
+fn allpasses(rate: u32) -> u64
+    requires { ⌜ rate ≤ 192000 ⌝ }
+    ensures { λ r. ⌜ (r ≡ sum (λ k. allpassLine k rate) 4) × (r ≤ 9680) ⌝ }
+{
+    let mut n = 0u64;
+    let mut k = 0u64;
+    while k < 4 {
+        n += lines::allpass_len(k, rate);
+        k += 1;
+    }
+    n
+}
+
+// Six combs, four allpasses, and a store for each comb.
+fn reverb(rate: u32) -> u64
+    requires { ⌜ rate ≤ 192000 ⌝ }
+    ensures { λ r. ⌜ (r ≡ reverbCells rate) × (r ≤ 48632) ⌝ }
+{
+    combs(rate) + allpasses(rate) + 6
+}
+
+fn fixed(k: u8) -> u64
+    ensures { λ r. ⌜ (r ≡ needOf k (cellRows 0 0 0 0 0 0)) × (r ≤ 11) ⌝ }
+{
+    let i = k as usize;
+    if i < 47 { CELLS[i] } else { 0 }
+}
+
+// A record's cells, by the bytes from its first on, its kind, and how many records its chain has.
+fn cells_of(r: &[u8], rate: u32, k: u8, chain: u64) -> u64
+    requires { ⌜ (40 ≤ length (now r)) × (rate ≤ 192000) × (chain ≤ 256) ⌝ }
+    ensures { λ x. ⌜ (x ≡ cellsWith (now (r .entry)) rate k chain) × (x ≤ 5760000) ⌝ }
+{
+    match k {
+        6 => 2 * voices(sheet::bits(r, 0)),
+        9 => noise(sheet::option(r)),
+        29 => lines::delay_line_len(sheet::number(r, 0), rate),
+        30 => reverb(rate),
+        31 => 5 * chain,
+        34 => lines::chorus_line_len(sheet::number(r, 1), rate),
+        _ => fixed(k),
+    }
+}
+
+fn registers_of(k: u8) -> u64
+    ensures { λ r. ⌜ (r ≡ registersWith k) × (r ≤ 11) ⌝ }
+{
+    let i = k as usize;
+    if i < 47 { REGISTERS[i] } else { 0 }
+}
+
+// A block for Mix and Mul.
+fn scratch_of(k: u8) -> u64
+    ensures { λ r. ⌜ (r ≡ scratchWith k) × (r ≤ 256) ⌝ }
+{
+    if k == 11 {
+        return 256;
+    }
+    if k == 12 { 256 } else { 0 }
+}
+
+// How many records stand in the chain that begins at f.
+fn chain_length(sheet: &[u8], count: usize, nexts: &[usize], f: usize) -> u64
+    requires { ⌜ Passed (now sheet) count × Table (next (now sheet)) count (now nexts) × (f < count) ⌝ }
+    ensures { λ r. ⌜ (r ≡ length (spine (records (now (sheet .entry)) f))) × (r ≤ 256) ⌝ }
+{
+    let mut n = 0u64;
+    let mut j = f;
+    while j != 0 {
+        n += 1;
+        j = nexts[j];
+    }
+    n
+}
+
+// A chain's length where it counts: Modal's.
+fn modes(sheet: &[u8], count: usize, nexts: &[usize], k: u8, f: usize) -> u64
+    requires { ⌜ Passed (now sheet) count × Table (next (now sheet)) count (now nexts) × (f < count) ⌝ }
+    ensures { λ r. ⌜ (k ≡ 31 → r ≡ length (spine (records (now (sheet .entry)) f))) × (r ≤ 256) ⌝ }
+{
+    if k == 31 {
+        chain_length(sheet, count, nexts, f)
+    } else {
+        0
+    }
+}
+
+// The cells of record i, of kind k, first f and role act: none if it is not built.
+fn cells_at(
+    sheet: &[u8],
+    count: usize,
+    nexts: &[usize],
+    i: usize,
+    k: u8,
+    f: usize,
+    act: u8,
+) -> usize
+    requires { ⌜ Passed (now sheet) count × Table (next (now sheet)) count (now nexts) × (i < count) × (k ≡ kind (now sheet) i) × (f ≡ first (now sheet) i) × (act ≡ roleCode (role (now sheet) i)) ⌝ }
+    ensures { λ x. ⌜ (x ≡ cells (now (sheet .entry)) i) × (x ≤ 5760000) ⌝ }
+{
+    if act < 2 {
+        return 0;
+    }
+    let m = modes(sheet, count, nexts, k, f);
+    let a = 24 + 40 * i;
+    cells_of(&sheet[a..], sheet::rate(sheet), k, m) as usize
+}
+
+fn registers_at(k: u8, r: u8) -> usize
+    ensures { λ x. ⌜ (x ≡ cond (isBuilt (codeRole r)) (registersWith k) 0) × (x ≤ 11) ⌝ }
+{
+    if r < 2 { 0 } else { registers_of(k) as usize }
+}
+
+fn scratch_at(k: u8, r: u8) -> usize
+    ensures { λ x. ⌜ (x ≡ cond (isBuilt (codeRole r)) (scratchWith k) 0) × (x ≤ 256) ⌝ }
+{
+    if r < 2 { 0 } else { scratch_of(k) as usize }
+}
+
+// Where each record's cells begin, with one entry more for how many there are; returns that.
+pub fn cells_from(
+    sheet: &[u8],
+    count: usize,
+    kinds: &[u8],
+    firsts: &[usize],
+    nexts: &[usize],
+    acts: &[u8],
+    from: &mut [usize],
+) -> usize
+    requires { ⌜ Passed (now sheet) count × Table (kind (now sheet)) count (now kinds) × Table (first (now sheet)) count (now firsts) × Table (next (now sheet)) count (now nexts) × Table (λ j. roleCode (role (now sheet) j)) count (now acts) × (count < length (now from)) ⌝ }
+    ensures { λ r. ⌜ Table (cellsFrom (now (sheet .entry))) (count + 1) (now (from .exit)) × (r ≡ cellsFrom (now (sheet .entry)) count) × (r ≤ 1474560000) ⌝ }
+{
+    let mut at = 0usize;
+    let mut i = 0usize;
+    while i < count {
+        from[i] = at;
+        at += cells_at(sheet, count, nexts, i, kinds[i], firsts[i], acts[i]);
+        i += 1;
+    }
+    from[i] = at;
+    at
+}
+
+pub fn registers_from(
+    sheet: &[u8],
+    count: usize,
+    kinds: &[u8],
+    acts: &[u8],
+    from: &mut [usize],
+) -> usize
+    requires { ⌜ Passed (now sheet) count × Table (kind (now sheet)) count (now kinds) × Table (λ j. roleCode (role (now sheet) j)) count (now acts) × (count < length (now from)) ⌝ }
+    ensures { λ r. ⌜ Table (registersFrom (now (sheet .entry))) (count + 1) (now (from .exit)) × (r ≡ registersFrom (now (sheet .entry)) count) × (r ≤ 2816) ⌝ }
+{
+    let mut at = 0usize;
+    let mut i = 0usize;
+    while i < count {
+        from[i] = at;
+        at += registers_at(kinds[i], acts[i]);
+        i += 1;
+    }
+    from[i] = at;
+    at
+}
+
+pub fn scratch_from(
+    sheet: &[u8],
+    count: usize,
+    kinds: &[u8],
+    acts: &[u8],
+    from: &mut [usize],
+) -> usize
+    requires { ⌜ Passed (now sheet) count × Table (kind (now sheet)) count (now kinds) × Table (λ j. roleCode (role (now sheet) j)) count (now acts) × (count < length (now from)) ⌝ }
+    ensures { λ r. ⌜ Table (scratchFrom (now (sheet .entry))) (count + 1) (now (from .exit)) × (r ≡ scratchFrom (now (sheet .entry)) count) × (r ≤ 65536) ⌝ }
+{
+    let mut at = 0usize;
+    let mut i = 0usize;
+    while i < count {
+        from[i] = at;
+        at += scratch_at(kinds[i], acts[i]);
+        i += 1;
+    }
+    from[i] = at;
+    at
+}
+
+// The three tables of places, and what the sheet needs of each.
+pub fn offsets(
+    sheet: &[u8],
+    count: usize,
+    kinds: &[u8],
+    firsts: &[usize],
+    nexts: &[usize],
+    acts: &[u8],
+    places: &mut [usize],
+    words: &mut [usize],
+    blocks: &mut [usize],
+) -> Needs
+    requires { ⌜ Passed (now sheet) count × Table (kind (now sheet)) count (now kinds) × Table (first (now sheet)) count (now firsts) × Table (next (now sheet)) count (now nexts) × Table (λ j. roleCode (role (now sheet) j)) count (now acts) × (count < length (now places)) × (count < length (now words)) × (count < length (now blocks)) ⌝ }
+    ensures { λ r. ⌜ Placed (now (sheet .entry)) count (now (places .exit)) (now (words .exit)) (now (blocks .exit)) (r .cells) (r .registers) (r .scratch) ⌝ }
+{
+    let c = cells_from(sheet, count, kinds, firsts, nexts, acts, places);
+    let r = registers_from(sheet, count, kinds, acts, words);
+    let s = scratch_from(sheet, count, kinds, acts, blocks);
+    Needs {
+        cells: c as u64,
+        registers: r as u64,
+        scratch: s as u64,
+    }
+}

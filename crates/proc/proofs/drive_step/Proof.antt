@@ -1,0 +1,13 @@
+-- `proc::drive_step` meets its contract. Assumes nothing.
+use Rattle.proc.specs.Effects.{driveStep}
+use borrow.Author.Needs.{needs}
+use Rattle.proc.proofs.drive_step.Statement.{statement}
+use Rattle.proc.proofs.drive_step.Tie as tie
+
+returns : tie.Need-returns
+unfolding driveStep
+returns c = rw (c .before .before .averaged .ensures, c .before .before .before .drive-antideriv .ensures, c .before .before .before .before .amplified .ensures)
+
+pub drive-step-spec : {M : Type 1} → statement M
+drive-step-spec =
+    tie.close (tie.spec (λ c κs. search needs) (λ c κs. search needs) (λ c κs. search needs) returns)

@@ -1,0 +1,316 @@
+// The processors for one sample: values in, a struct of the sample and the new state out.
+ghost use mathlib.Core.Path.{_≡_};
+ghost use Prim.Native.Nat.{_<_};
+ghost use Rattle.proc.specs.Effects.{gainOf, tuned, biquadStep, filterOf, delayOf, onward, combOf, allpassOf, reverbMix, modeOf, driven, driveStep, drivePlain, wobble, tremoloOf, chorusRead, chorusOf, compressOf};
+
+// A filter's eleven cells, in the sheet's order.
+pub struct Filter {
+    pub scale: f32,
+    pub prev_f: f32,
+    pub b0: f32,
+    pub b1: f32,
+    pub b2: f32,
+    pub a1: f32,
+    pub a2: f32,
+    pub x1: f32,
+    pub x2: f32,
+    pub y1: f32,
+    pub y2: f32,
+}
+
+pub struct FilterOut {
+    pub out: f32,
+    pub filter: Filter,
+}
+
+pub struct CombOut {
+    pub out: f32,
+    pub store: f32,
+    pub line: f32,
+}
+
+pub struct AllpassOut {
+    pub out: f32,
+    pub line: f32,
+}
+
+pub struct Mode {
+    pub a1: f32,
+    pub a2: f32,
+    pub b0: f32,
+    pub y1: f32,
+    pub y2: f32,
+}
+
+pub struct ModeOut {
+    pub out: f32,
+    pub mode: Mode,
+}
+
+pub struct Drive {
+    pub x_prev: f32,
+    pub f_prev: f32,
+    pub dc_x: f32,
+    pub dc_y: f32,
+}
+
+pub struct DriveOut {
+    pub out: f32,
+    pub drive: Drive,
+}
+
+// Two places of the line and how far between them.
+pub struct ChorusRead {
+    pub i0: u64,
+    pub i1: u64,
+    pub frac: f32,
+}
+
+pub struct Compressed {
+    pub out: f32,
+    pub env: f32,
+}
+
+pub fn gain(amount: f32, x: f32) -> f32
+    ensures { λ r. ⌜ r ≡ gainOf amount x ⌝ }
+{
+    x * amount
+}
+
+// The coefficients are worked out anew exactly where the cutoff moved; a NaN always counts as moved.
+pub fn tune(kind: render::FilterKind, q: f32, sr: u32, f: f32, s: Filter) -> Filter
+    ensures { λ r. ⌜ r ≡ tuned kind q sr f s ⌝ }
+{
+    if f != s.prev_f {
+        let k = render::biquad_coeffs(kind, f, q, sr);
+        return Filter {
+            scale: s.scale,
+            prev_f: f,
+            b0: k.b0,
+            b1: k.b1,
+            b2: k.b2,
+            a1: k.a1,
+            a2: k.a2,
+            x1: s.x1,
+            x2: s.x2,
+            y1: s.y1,
+            y2: s.y2,
+        };
+    }
+    s
+}
+
+pub fn biquad(s: Filter, x: f32) -> FilterOut
+    ensures { λ r. ⌜ r ≡ biquadStep s x ⌝ }
+{
+    let y = s.b0 * x + s.b1 * s.x1 + s.b2 * s.x2 - s.a1 * s.y1 - s.a2 * s.y2;
+    let next = Filter {
+        scale: s.scale,
+        prev_f: s.prev_f,
+        b0: s.b0,
+        b1: s.b1,
+        b2: s.b2,
+        a1: s.a1,
+        a2: s.a2,
+        x1: x,
+        x2: s.x1,
+        y1: y,
+        y2: s.y1,
+    };
+    FilterOut {
+        out: y,
+        filter: next,
+    }
+}
+
+pub fn filter_step(
+    kind: render::FilterKind,
+    q: f32,
+    sr: u32,
+    cutoff: f32,
+    s: Filter,
+    x: f32,
+) -> FilterOut
+    ensures { λ r. ⌜ r ≡ filterOf kind q sr cutoff s x ⌝ }
+{
+    biquad(tune(kind, q, sr, cutoff * s.scale, s), x)
+}
+
+pub fn delay(feedback: f32, x: f32, delayed: f32) -> f32
+    ensures { λ r. ⌜ r ≡ delayOf feedback x delayed ⌝ }
+{
+    x + feedback * delayed
+}
+
+// The next place of a line, without a division.
+pub fn next_place(w: u64, len: u64) -> u64
+    requires { ⌜ w < len ⌝ }
+    ensures { λ r. ⌜ (r ≡ onward w len) × (r < len) ⌝ }
+{
+    let next = w + 1;
+    if next < len { next } else { 0 }
+}
+
+pub fn comb(feedback: f32, store: f32, x: f32, y: f32) -> CombOut
+    ensures { λ r. ⌜ r ≡ combOf feedback store x y ⌝ }
+{
+    let fs = y * (1.0 - 0.2) + store * 0.2;
+    CombOut {
+        out: y,
+        store: fs,
+        line: x + fs * feedback,
+    }
+}
+
+pub fn allpass(wet: f32, buffered: f32) -> AllpassOut
+    ensures { λ r. ⌜ r ≡ allpassOf wet buffered ⌝ }
+{
+    AllpassOut {
+        out: -wet + buffered,
+        line: wet + buffered * 0.5,
+    }
+}
+
+pub fn reverb_mix(mix: f32, x: f32, wet: f32) -> f32
+    ensures { λ r. ⌜ r ≡ reverbMix mix x wet ⌝ }
+{
+    x * (1.0 - mix) + (wet * 0.16666667) * mix
+}
+
+pub fn mode_step(m: Mode, x: f32) -> ModeOut
+    ensures { λ r. ⌜ r ≡ modeOf m x ⌝ }
+{
+    let y = m.b0 * x + m.a1 * m.y1 + m.a2 * m.y2;
+    let next = Mode {
+        a1: m.a1,
+        a2: m.a2,
+        b0: m.b0,
+        y1: y,
+        y2: m.y1,
+    };
+    ModeOut { out: y, mode: next }
+}
+
+fn amplified(amount: f32, x: f32) -> f32
+    ensures { λ r. ⌜ r ≡ driven amount x ⌝ }
+{
+    float::max0(amount) * x
+}
+
+// The curve's average from the last sample to this one, by its antiderivative; at the middle where the two are nearly equal.
+fn averaged(shape: dsl::DriveShape, xn: f32, f: f32, x_prev: f32, f_prev: f32) -> f32
+    ensures { λ r. ⌜ r ≡ Rattle.proc.specs.Effects.averageOf shape xn f «x_prev» «f_prev» ⌝ }
+{
+    let d = xn - x_prev;
+    if float::abs(d) > 1e-5 {
+        return (f - f_prev) / d;
+    }
+    render::drive_curve(0.5 * (xn + x_prev), shape)
+}
+
+pub fn drive_step(shape: dsl::DriveShape, amount: f32, s: Drive, x: f32) -> DriveOut
+    ensures { λ r. ⌜ r ≡ driveStep shape amount s x ⌝ }
+{
+    let xn = amplified(amount, x);
+    let f = render::drive_antideriv(xn, shape);
+    let y = averaged(shape, xn, f, s.x_prev, s.f_prev);
+    let yb = y - s.dc_x + 0.9995 * s.dc_y;
+    let next = Drive {
+        x_prev: xn,
+        f_prev: f,
+        dc_x: y,
+        dc_y: yb,
+    };
+    DriveOut {
+        out: yb,
+        drive: next,
+    }
+}
+
+pub fn drive_plain(shape: dsl::DriveShape, amount: f32, x: f32) -> f32
+    ensures { λ r. ⌜ r ≡ drivePlain shape amount x ⌝ }
+{
+    render::drive_curve(amplified(amount, x), shape)
+}
+
+fn wobble_at(rate: f32, srf: f32, t: u64) -> f32
+    ensures { λ r. ⌜ r ≡ wobble rate srf t ⌝ }
+{
+    dsp::sin(6.2831855 * rate * cast::u64_to_f32(t) / srf)
+}
+
+pub fn tremolo(rate: f32, depth: f32, srf: f32, t: u64, x: f32) -> f32
+    ensures { λ r. ⌜ r ≡ tremoloOf rate depth srf t x ⌝ }
+{
+    x * (1.0 - depth * (0.5 + 0.5 * wobble_at(rate, srf, t)))
+}
+
+// A remainder that rounds up to the line's length is taken at 0 by the last remainder.
+pub fn chorus_read(
+    base: f32,
+    swing: f32,
+    rate: f32,
+    srf: f32,
+    len: u64,
+    w: u64,
+    t: u64,
+) -> ChorusRead
+    requires { ⌜ 0 < len ⌝ }
+    ensures { λ r. ⌜ (r ≡ chorusRead base swing rate srf len w t) × (r .i0 < len) × (r .i1 < len) ⌝ }
+{
+    let delay = base + swing * wobble_at(rate, srf, t);
+    let read = float::rem_euclid(cast::u64_to_f32(w) - delay, cast::u64_to_f32(len));
+    let whole = float::floor(read);
+    let i0 = cast::f32_to_u64(whole) % len;
+    ChorusRead {
+        i0,
+        i1: next_place(i0, len),
+        frac: read - whole,
+    }
+}
+
+pub fn chorus(mix: f32, frac: f32, x: f32, a: f32, b: f32) -> f32
+    ensures { λ r. ⌜ r ≡ chorusOf mix frac x a b ⌝ }
+{
+    let wet = a * (1.0 - frac) + b * frac;
+    x * (1.0 - mix) + wet * mix
+}
+
+// The level above the threshold, turned down by the ratio, in dB.
+fn reduction(threshold: f32, ratio: f32, db: f32) -> f32
+    ensures { λ r. ⌜ r ≡ Rattle.proc.specs.Effects.reductionOf threshold ratio db ⌝ }
+{
+    if db > threshold {
+        return -(db - threshold) * (1.0 - 1.0 / ratio);
+    }
+    0.0
+}
+
+fn follow(at: f32, rt: f32, env: f32, rect: f32) -> f32
+    ensures { λ r. ⌜ r ≡ Rattle.proc.specs.Effects.followed at rt env rect ⌝ }
+{
+    if rect > env {
+        return rect + at * (env - rect);
+    }
+    rect + rt * (env - rect)
+}
+
+pub fn compress(
+    at: f32,
+    rt: f32,
+    threshold: f32,
+    ratio: f32,
+    makeup: f32,
+    env: f32,
+    x: f32,
+) -> Compressed
+    ensures { λ r. ⌜ r ≡ compressOf at rt threshold ratio makeup env x ⌝ }
+{
+    let e = follow(at, rt, env, float::abs(x));
+    let db = 20.0 * dsp::log10(float::max(e, 1e-9));
+    let g = dsp::powf(10.0, reduction(threshold, ratio, db) / 20.0);
+    Compressed {
+        out: x * g * makeup,
+        env: e,
+    }
+}

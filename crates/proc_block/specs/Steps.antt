@@ -1,0 +1,32 @@
+-- The one-sample kernels as steps of a block: xs are the samples that come in.
+use mathlib.Core.List.{List}
+use Prim.Native.Nat.{ℕ, _+_}
+use lib.ListN.{getD}
+use lib.Ieee.{Float, nan}
+use Rattle.dsl.specs.declared.DriveShape.{DriveShape}
+use Rattle.render.specs.declared.FilterKind.{FilterKind}
+use Rattle.proc.specs.declared.Filter.{Filter}
+use Rattle.proc.specs.declared.Drive.{Drive}
+use Rattle.proc.specs.Effects.{gainOf, filterOf, driveStep, drivePlain, tremoloOf, compressOf}
+
+-- sample k of a buffer
+abbrev pub at : List Float → ℕ → Float
+at xs k = getD xs k nan
+
+unfoldable pub gainStep : List Float → List Float → ℕ → Unit {0} → Float × Unit {0}
+gainStep xs amount k s = (gainOf (at amount k) (at xs k), s)
+
+unfoldable pub filterStep : List Float → List Float → FilterKind → Float → ℕ → ℕ → Filter → Float × Filter
+filterStep xs cutoff kind q sr k s = let r = filterOf kind q sr (at cutoff k) s (at xs k) in (r .out, r .filter)
+
+unfoldable pub driveStepAt : List Float → List Float → DriveShape → ℕ → Drive → Float × Drive
+driveStepAt xs amount shape k s = let r = driveStep shape (at amount k) s (at xs k) in (r .out, r .drive)
+
+unfoldable pub drivePlainStep : List Float → List Float → DriveShape → ℕ → Unit {0} → Float × Unit {0}
+drivePlainStep xs amount shape k s = (drivePlain shape (at amount k) (at xs k), s)
+
+unfoldable pub tremoloStep : List Float → Float → Float → Float → ℕ → ℕ → Unit {0} → Float × Unit {0}
+tremoloStep xs rate depth srf t k s = (tremoloOf rate depth srf (t + k) (at xs k), s)
+
+unfoldable pub compressStep : List Float → Float → Float → Float → Float → Float → ℕ → Float → Float × Float
+compressStep xs attack release threshold ratio makeup k env = let r = compressOf attack release threshold ratio makeup env (at xs k) in (r .out, r .env)

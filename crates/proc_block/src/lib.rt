@@ -1,0 +1,106 @@
+// The processors over a block, in place: what the one-sample kernel gives, sample after sample, with the state in locals.
+ghost use mathlib.Core.Path.{_≡_};
+ghost use Prim.Native.Nat.{_+_, _^_, _≤_, _<_};
+ghost use lib.ListN.{length};
+ghost use Rattle.block.specs.Iterate.{given, after};
+ghost use Rattle.proc_block.specs.Steps.{gainStep, filterStep, driveStepAt, drivePlainStep, tremoloStep, compressStep};
+
+pub fn gain_block(out: &mut [f32], amount: &[f32])
+    requires { ⌜ (length (now out) ≤ length (now amount)) ⌝ }
+    ensures { λ v. ⌜ (now (out .exit) ≡ given (gainStep (now (out .entry)) (now (amount .entry))) tt (length (now (out .entry)))) ⌝ }
+{
+    let mut k: usize = 0;
+    while k < out.len() {
+        out[k] = proc::gain(amount[k], out[k]);
+        k += 1;
+    }
+}
+
+// The coefficients follow the cutoff where it moved, as in the one-sample kernel.
+pub fn filter_block(
+    out: &mut [f32],
+    cutoff: &[f32],
+    kind: render::FilterKind,
+    q: f32,
+    sr: u32,
+    s: proc::Filter,
+) -> proc::Filter
+    requires { ⌜ (length (now out) ≤ length (now cutoff)) ⌝ }
+    ensures { λ v. ⌜ (now (out .exit) ≡ given (filterStep (now (out .entry)) (now (cutoff .entry)) kind q sr) s (length (now (out .entry)))) × (v ≡ after (filterStep (now (out .entry)) (now (cutoff .entry)) kind q sr) s (length (now (out .entry)))) ⌝ }
+{
+    let mut p = s;
+    let mut k: usize = 0;
+    while k < out.len() {
+        let r = proc::filter_step(kind, q, sr, cutoff[k], p, out[k]);
+        out[k] = r.out;
+        p = r.filter;
+        k += 1;
+    }
+    p
+}
+
+// Anti-aliased.
+pub fn drive_block(
+    out: &mut [f32],
+    amount: &[f32],
+    shape: dsl::DriveShape,
+    s: proc::Drive,
+) -> proc::Drive
+    requires { ⌜ (length (now out) ≤ length (now amount)) ⌝ }
+    ensures { λ v. ⌜ (now (out .exit) ≡ given (driveStepAt (now (out .entry)) (now (amount .entry)) shape) s (length (now (out .entry)))) × (v ≡ after (driveStepAt (now (out .entry)) (now (amount .entry)) shape) s (length (now (out .entry)))) ⌝ }
+{
+    let mut p = s;
+    let mut k: usize = 0;
+    while k < out.len() {
+        let r = proc::drive_step(shape, amount[k], p, out[k]);
+        out[k] = r.out;
+        p = r.drive;
+        k += 1;
+    }
+    p
+}
+
+pub fn drive_plain_block(out: &mut [f32], amount: &[f32], shape: dsl::DriveShape)
+    requires { ⌜ (length (now out) ≤ length (now amount)) ⌝ }
+    ensures { λ v. ⌜ (now (out .exit) ≡ given (drivePlainStep (now (out .entry)) (now (amount .entry)) shape) tt (length (now (out .entry)))) ⌝ }
+{
+    let mut k: usize = 0;
+    while k < out.len() {
+        out[k] = proc::drive_plain(shape, amount[k], out[k]);
+        k += 1;
+    }
+}
+
+pub fn tremolo_block(out: &mut [f32], rate: f32, depth: f32, srf: f32, t: u64)
+    requires { ⌜ (t + length (now out) < 2 ^ 64) ⌝ }
+    ensures { λ v. ⌜ (now (out .exit) ≡ given (tremoloStep (now (out .entry)) rate depth srf t) tt (length (now (out .entry)))) ⌝ }
+{
+    let mut k: usize = 0;
+    while k < out.len() {
+        out[k] = proc::tremolo(rate, depth, srf, t + (k as u64), out[k]);
+        k += 1;
+    }
+}
+
+// at, rt and makeup are the cells that the voice was built with.
+pub fn compress_block(
+    out: &mut [f32],
+    at: f32,
+    rt: f32,
+    threshold: f32,
+    ratio: f32,
+    makeup: f32,
+    env: f32,
+) -> f32
+    ensures { λ v. ⌜ (now (out .exit) ≡ given (compressStep (now (out .entry)) at rt threshold ratio makeup) env (length (now (out .entry)))) × (v ≡ after (compressStep (now (out .entry)) at rt threshold ratio makeup) env (length (now (out .entry)))) ⌝ }
+{
+    let mut p = env;
+    let mut k: usize = 0;
+    while k < out.len() {
+        let r = proc::compress(at, rt, threshold, ratio, makeup, p, out[k]);
+        out[k] = r.out;
+        p = r.env;
+        k += 1;
+    }
+    p
+}

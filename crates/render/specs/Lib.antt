@@ -1,0 +1,4 @@
+pub mod Osc
+pub mod Biquad
+pub mod Drive
+pub mod Cases

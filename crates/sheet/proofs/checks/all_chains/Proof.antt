@@ -1,0 +1,46 @@
+-- `sheet::checks::all_chains` meets its contract. The invariant: the flag says that every chain of the records below i passed. Assumes nothing.
+use mathlib.Core.Path.{_≡_, refl, sym, ap, ap₂, _∙_}
+use mathlib.Core.Bool.{Bool, _&&_}
+use mathlib.Core.List.{List}
+use Prim.Native.Nat.{ℕ, _-_, _≤_}
+use native.Mathlib.Omega.{arith}
+use lib.ListN.{length}
+use borrow.Author.Needs.{needs}
+use Rattle.sheet.specs.Checks.{all}
+use Rattle.sheet.specs.Links.{at, chainAt}
+use Rattle.sheet.specs.Laws.{all-suc}
+use Rattle.sheet.proofs.checks.all_chains.Statement.{statement}
+use Rattle.sheet.proofs.checks.all_chains.Tie as tie
+
+abbrev chain : List ℕ → List ℕ → List ℕ → ℕ → Bool
+chain kinds first next i = chainAt (at kinds) (at first) (at next) (length first) i
+
+abbrev Inv-loop : tie.InvT-loop
+Inv-loop chains classes kinds first next ok₀ i₀ ok i = (i ≤ length first) × (ok ≡ all (chain kinds first next) i)
+
+abbrev μ-loop : tie.MeasureT-loop
+μ-loop chains classes kinds first next ok₀ i₀ ok i = length first - i
+
+loop-holds : tie.Need-loop-holds Inv-loop μ-loop
+unfolding all
+loop-holds c = (omega arith, refl)
+
+chain-ok-requires : tie.Need-chain-ok-requires Inv-loop μ-loop
+chain-ok-requires c κs = let s = c .before .before .before .before .before in (s .pre .0, (s .pre .1, c .loop-test .taken))
+
+loop-again : tie.Need-loop-again Inv-loop μ-loop
+loop-again c =
+    let l = c .before .before .loop in
+    (omega arith, ap₂ _&&_ (l .inv .1) (c .chain-ok .ensures) ∙ sym (all-suc _ (l .i)))
+
+returns : tie.Need-returns Inv-loop μ-loop
+returns c =
+    let l = c .before .loop in
+    let a = c .before .before .before .before .before .args in
+    let e : l .i ≡ length (a .first .now) = omega arith in
+    l .inv .1 ∙ ap (all (chain (a .kinds .now) (a .first .now) (a .next .now))) e
+
+pub all-chains-spec : {M : Type 1} → statement M
+all-chains-spec =
+    tie.close
+    (tie.spec Inv-loop μ-loop loop-holds chain-ok-requires (λ c. search needs) (λ c. search needs) loop-again returns)

@@ -1,0 +1,23 @@
+-- `sheet::checks::last` meets its contract. Assumes nothing.
+use borrow.Author.Needs.{needs}
+use Rattle.sheet.specs.Codes.{lastOf}
+use Rattle.sheet.proofs.checks.last.Statement.{statement}
+use Rattle.sheet.proofs.checks.last.Tie as tie
+
+returns : tie.Need-returns
+unfolding lastOf
+returns c = rw (c .last-set8 .ensures, c .before .last-set7 .ensures, c .before .before .last-set6 .ensures, c .before .before .before .last-set5 .ensures, c .before .before .before .before .last-set4 .ensures, c .before .before .before .before .before .last-set3 .ensures, c .before .before .before .before .before .before .last-set2 .ensures, c .before .before .before .before .before .before .before .last-set .ensures)
+
+pub last-spec : {M : Type 1} → statement M
+last-spec =
+    tie.close
+    (tie.spec
+    (λ c κs. search needs)
+    (λ c κs. search needs)
+    (λ c κs. search needs)
+    (λ c κs. search needs)
+    (λ c κs. search needs)
+    (λ c κs. search needs)
+    (λ c κs. search needs)
+    (λ c κs. search needs)
+    returns)

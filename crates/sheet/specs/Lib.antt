@@ -1,0 +1,13 @@
+pub mod Bytes
+pub mod Record
+pub mod Value
+pub mod Kinds
+pub mod Tree
+pub mod Checks
+pub mod Codes
+pub mod Links
+pub mod Below
+pub mod Laws
+pub mod Table
+pub mod LinkLaws
+pub mod Accepted

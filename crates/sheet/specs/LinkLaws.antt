@@ -1,0 +1,268 @@
+-- Laws of links: where they lead, how they are counted, that no record stands twice, and what is left of a chain
+use mathlib.Core.Path.{_≡_, refl, sym, ap, _∙_}
+use mathlib.Core.Bool.{Bool, true, false, cond, not, _&&_, _||_}
+use mathlib.Core.List.{List, [], _∷_}
+use mathlib.Core.Logic.{_≢_}
+use Prim.Native.Nat.{ℕ, zero, suc, _+_, _-_, _*_, _≤_, _<_, max}
+use native.Mathlib.Omega.{arith}
+use native.Mathlib.Decide.{ℕ-discrete, decLt}
+use lib.Dec.{eqb, leb, ltb, eqb·suc-zero}
+use lib.ListN.{length, set, length-set}
+use lib.Seq.{getD-set-same, getD-set-other}
+use borrow.Author.Tests.{eq-eqb, ne-eqb, eqb-true, ltb-true, ltb-false, lt-ltb, le-ltb, le-leb, lt-leb}
+use Rattle.tree.specs.Tree.{node}
+use Rattle.tree.specs.Forest.{Forest, whole, root, whole-nil, whole-node}
+use Rattle.sheet.specs.Kinds.{isNode, isValue}
+use Rattle.sheet.specs.Tree.{spine, depth}
+use Rattle.sheet.specs.Checks.{all, every, hit, sum, holds, lowest}
+use Rattle.sheet.specs.Links.{at, Links, Linked, hitsAt, Counted, onceAt, along, chainAt, depthAt, shapeOf}
+use Rattle.sheet.specs.Laws.{both, and-assoc, and-comm, and-true, and-false, all-at, every-same, sum-suc, sum-one, sum-two}
+use Rattle.sheet.specs.Codes.{chainOf, classOf, wantOf}
+use Rattle.sheet.specs.Table.{entry}
+
+-- ---- how links are counted
+pub hit-is : (l j : ℕ) → l ≡ j → hit l j ≡ 1
+unfolding hit
+hit-is l j e = rw (eq-eqb l j e)
+
+pub hit-not : (l j : ℕ) → l ≢ j → hit l j ≡ 0
+unfolding hit
+hit-not l j d = rw (ne-eqb l j d)
+
+pub hit-most : (l j : ℕ) → hit l j ≤ 1
+hit-most l j = elim (ℕ-discrete l j) [ yes e ↦ omega (arith, hit-is l j e) | no d ↦ omega (arith, hit-not l j d) ]
+
+pub hits-most : (f x : ℕ → ℕ) (j i : ℕ) → sum (hitsAt f x j) i ≤ 2 * i
+unfolding sum
+hits-most f x j zero = omega arith
+hits-most f x j (suc i) = omega (arith, hits-most f x j i, hit-most (f i) j, hit-most (x i) j)
+
+-- one more at l, in a table of counts
+pub bump : (t : List ℕ) (l j : ℕ) → l < length t → at (set t l (at t l + 1)) j ≡ at t j + hit l j
+bump t l j h = elim (ℕ-discrete l j) [
+  | yes e ↦ rw (hit-is l j e, ← e) (getD-set-same t l (at t l + 1) 0 h)
+  | no d ↦ let z = hit-not l j d in getD-set-other t l j (at t l + 1) 0 (λ q. d (sym q)) ∙ omega arith
+]
+
+module _ {f x : ℕ → ℕ} {n i : ℕ} {t : List ℕ} (c : Counted f x n t i) where
+  pub count-first : (l : ℕ) → l < n → at t l ≤ 2 * i
+  count-first l h = omega (arith, c .is l h, hits-most f x l i)
+
+  pub count-next : (l m : ℕ) → l < length t → m < n → at (set t l (at t l + 1)) m ≤ 2 * i + 1
+  count-next l m h g = omega (arith, bump t l m h, c .is m g, hits-most f x m i, hit-most l m)
+
+  pub count-turn : f i < length t → x i < length t → Counted f x n (set (set t (f i) (at t (f i) + 1)) (x i) (at (set t (f i) (at t (f i) + 1)) (x i) + 1)) (i + 1)
+  count-turn h g = record {
+    is = λ j k. let u = set t (f i) (at t (f i) + 1) in
+        omega (arith, bump u (x i) j (simp length-set g), bump t (f i) j h, c .is j k, sum-suc (hitsAt f x j) i);
+  }
+
+-- ---- where links lead
+module _ {f x : ℕ → ℕ} {n : ℕ} (l : Links f x n) (some : 1 ≤ n) where
+  pub first-below : (i : ℕ) → f i < n
+  first-below i = elim (ℕ-discrete (f i) 0) [ yes e ↦ omega arith | no d ↦ l .first-in i d .1 ]
+
+  pub next-below : (i : ℕ) → x i < n
+  next-below i = elim (ℕ-discrete (x i) 0) [ yes e ↦ omega arith | no d ↦ l .next-in i d .1 ]
+
+-- ---- no record is linked twice
+module _ {f x : ℕ → ℕ} {n : ℕ} (l : Links f x n) (o : all (onceAt f x n) n ≡ true) where
+  pub once : (j : ℕ) → j ≢ 0 → j < n → sum (hitsAt f x j) n ≡ 1
+  unfolding onceAt
+  once j d h = eqb-true _ 1 (rw (ne-eqb j 0 d) at (all-at (onceAt f x n) n o j h))
+
+  first-inside : (i : ℕ) → f i ≢ 0 → i < n
+  first-inside i d = omega (arith, l .first-in i d .0, l .first-in i d .1)
+
+  next-inside : (i : ℕ) → x i ≢ 0 → i < n
+  next-inside i d = omega (arith, l .next-in i d .0, l .next-in i d .1)
+
+  clash : (j i k : ℕ) → j ≢ 0 → j < n → i ≢ k → i < n → k < n → 1 ≤ hitsAt f x j i → 1 ≤ hitsAt f x j k → ⊥
+  clash j i k d h a hi hk p q = elim (decLt i k) [
+    | yes g ↦ omega (arith, once j d h, sum-two (hitsAt f x j) n i k g hk)
+    | no g ↦ let m : k < i = omega arith in omega (arith, once j d h, sum-two (hitsAt f x j) n k i m hi)
+  ]
+
+  first-hits : (j i : ℕ) → f i ≡ j → 1 ≤ hitsAt f x j i
+  first-hits j i e = omega (arith, hit-is (f i) j e)
+
+  next-hits : (j i : ℕ) → x i ≡ j → 1 ≤ hitsAt f x j i
+  next-hits j i e = omega (arith, hit-is (x i) j e)
+
+  pub forest-of : Forest f x
+  forest-of = record {
+    first-up = λ i d. l .first-in i d .0;
+    next-up = λ i d. l .next-in i d .0;
+    first-one = λ i k d e. elim (ℕ-discrete i k) [
+      | yes q ↦ q
+      | no a ↦ absurd (clash (f i) i k d (l .first-in i d .1) a (first-inside i d) (first-inside k (λ z. d (e ∙ z))) (first-hits _ i refl) (first-hits _ k (sym e)))
+    ];
+    next-one = λ i k d e. elim (ℕ-discrete i k) [
+      | yes q ↦ q
+      | no a ↦ absurd (clash (x i) i k d (l .next-in i d .1) a (next-inside i d) (next-inside k (λ z. d (e ∙ z))) (next-hits _ i refl) (next-hits _ k (sym e)))
+    ];
+    not-both = λ i k d e. elim (ℕ-discrete i k) [
+      | yes q ↦
+          let a = hit-is (f i) (f i) refl in
+          let b = hit-is (x i) (f i) (ap x q ∙ sym e) in
+          omega (arith, once (f i) d (l .first-in i d .1), sum-one (hitsAt f x (f i)) n i (first-inside i d))
+      | no a ↦ clash (f i) i k d (l .first-in i d .1) a (first-inside i d) (next-inside k (λ z. d (e ∙ z))) (first-hits _ i refl) (next-hits _ k (sym e))
+    ];
+  }
+
+  pub linked-of : Linked f x n
+  linked-of = record { links = l; forest = forest-of }
+
+-- ---- along a chain
+-- how far it can still go from j: 0 at its end, and less after each record
+abbrev pub left : ℕ → ℕ → ℕ
+left n j = cond (eqb j 0) 0 (n - j)
+
+pub left-falls : (n j m : ℕ) → j ≢ 0 → j < n → (m ≢ 0 → j < m) → left n m < left n j
+left-falls n j m d h up = elim (ℕ-discrete m 0) [
+  | yes e ↦ rw (eq-eqb m 0 e, ne-eqb j 0 d) (omega arith)
+  | no a ↦ rw (ne-eqb m 0 a, ne-eqb j 0 d) (omega (arith, up a))
+]
+
+module _ {f x : ℕ → ℕ} {n : ℕ} (l : Linked f x n) where
+  pub node-at : (j : ℕ) → j ≢ 0 → j < n → whole f x n j ≡ node j (whole f x n (f j)) (whole f x n (x j))
+  node-at j d h = whole-node f x (l .forest) n (λ i e. l .links .first-in i e .1) (λ i e. l .links .next-in i e .1) j d h
+
+  pub along-cons : (k : ℕ → ℕ) (j : ℕ) → j ≢ 0 → j < n → along k f x n j ≡ k j ∷ along k f x n (x j)
+  unfolding spine
+  along-cons k j d h = rw (node-at j d h)
+
+  pub depth-cons : (k : ℕ → ℕ) (j : ℕ) → j ≢ 0 → j < n → depthAt k f x n j ≡ max (cond (isNode (k j)) (suc (depthAt k f x n (f j))) 0) (depthAt k f x n (x j))
+  unfolding depth
+  depth-cons k j d h = rw (node-at j d h)
+
+pub along-nil : (k f x : ℕ → ℕ) (n : ℕ) → along k f x n 0 ≡ []
+unfolding spine
+along-nil k f x n = rw (whole-nil f x n)
+
+pub depth-nil : (k f x : ℕ → ℕ) (n : ℕ) → depthAt k f x n 0 ≡ 0
+unfolding depth
+depth-nil k f x n = rw (whole-nil f x n)
+
+-- ---- what a chain's code says of its members: codes 0 to 2 are the number of values, and from 3 on the number is free
+holds-none : (p : ℕ → Bool) (ks : List ℕ) → eqb (length ks) 0 ≡ (every p ks && eqb (length ks) 0)
+unfolding every
+holds-none p [] = refl
+holds-none p (k ∷ ks) = rw (eqb·suc-zero (length ks)) (sym (and-false (p k && every p ks)))
+
+holds-some : (n : ℕ) (ks : List ℕ) → (eqb (length ks) n && every isValue ks) ≡ (every (λ k. eqb (classOf k) 2) ks && eqb (length ks) n)
+holds-some n ks = and-comm (eqb (length ks) n) (every isValue ks) ∙ ap (λ (b : Bool). b && eqb (length ks) n) (every-same isValue _ (λ k. sym (entry k .value)) ks)
+
+holds-any : (p q : ℕ → Bool) → ((k : ℕ) → q k ≡ p k) → (ks : List ℕ) → every p ks ≡ (every q ks && true)
+holds-any p q h ks = every-same p q (λ k. sym (h k)) ks ∙ sym (and-true (every q ks))
+
+pub holds-is : (c : ℕ) (ks : List ℕ) → c ≤ 5 → holds (chainOf c) ks ≡ (every (λ k. eqb (classOf k) (wantOf c)) ks && (ltb 2 c || eqb (length ks) c))
+unfolding holds chainOf
+holds-is zero ks h = holds-none (λ k. eqb (classOf k) 2) ks
+holds-is (suc zero) ks h = holds-some 1 ks
+holds-is (suc (suc zero)) ks h = holds-some 2 ks
+holds-is (suc (suc (suc zero))) ks h = holds-any isNode (λ k. eqb (classOf k) 3) (λ k. entry k .node) ks
+holds-is (suc (suc (suc (suc zero)))) ks h = holds-any (λ k. eqb k 51) (λ k. eqb (classOf k) 4) (λ k. entry k .mode) ks
+holds-is (suc (suc (suc (suc (suc zero))))) ks h = holds-any (λ k. eqb k 52) (λ k. eqb (classOf k) 5) (λ k. entry k .step) ks
+holds-is (suc (suc (suc (suc (suc (suc c)))))) ks h = let z : ⊥ = omega arith in absurd z
+
+-- THE INVARIANT of a loop along a chain from start on, now at j: what is counted so far with what is left makes the whole
+pub record Walked (p : ℕ → Bool) (k f x : ℕ → ℕ) (n start : ℕ) (a : Bool) (c j : ℕ) : Type 0 where
+  pub inside : j < n
+  pub room : c + left n j ≤ n
+  pub all-is : every p (along k f x n start) ≡ (a && every p (along k f x n j))
+  pub count-is : length (along k f x n start) ≡ c + length (along k f x n j)
+
+pub walk-start : (p : ℕ → Bool) (k f x : ℕ → ℕ) (n start : ℕ) → start < n → Walked p k f x n start true 0 start
+walk-start p k f x n start h = record { inside = h; room = elim (ℕ-discrete start 0) [ yes e ↦ rw (eq-eqb start 0 e) (omega arith) | no d ↦ rw (ne-eqb start 0 d) (omega arith) ]; all-is = refl; count-is = omega arith }
+
+module _ {f x : ℕ → ℕ} {n : ℕ} (l : Linked f x n) {p : ℕ → Bool} {k : ℕ → ℕ} {start : ℕ} {a : Bool} {c : ℕ} where
+  pub walk-turn : {j : ℕ} → Walked p k f x n start a c j → j ≢ 0 → {b : Bool} → b ≡ p (k j) → Walked p k f x n start (a && b) (c + 1) (x j)
+  unfolding every
+  walk-turn {j} w d {b} e =
+      let h = w .inside in
+      let q = along-cons l k j d h in
+      record {
+        inside = next-below (l .links) (omega arith) j;
+        room = omega (arith, w .room, left-falls n j (x j) d h (λ g. l .links .next-in j g .0));
+        all-is = w .all-is ∙ ap (λ (ks : List ℕ). a && every p ks) q ∙ ap (λ (t : Bool). a && (t && every p (along k f x n (x j)))) (sym e) ∙ and-assoc a b _;
+        count-is = omega (arith, w .count-is, ap length q);
+      }
+
+  pub walk-all : {j : ℕ} → Walked p k f x n start a c j → j ≡ 0 → a ≡ every p (along k f x n start)
+  unfolding every
+  walk-all w e = sym (w .all-is ∙ ap (λ (i : ℕ). a && every p (along k f x n i)) e ∙ ap (λ (ks : List ℕ). a && every p ks) (along-nil k f x n) ∙ and-true a)
+
+  pub walk-count : {j : ℕ} → Walked p k f x n start a c j → j ≡ 0 → c ≡ length (along k f x n start)
+  walk-count {j} w e = omega (arith, w .count-is, ap (λ (i : ℕ). length (along k f x n i)) e, ap length (along-nil k f x n))
+
+-- ---- how deep a chain goes: a member that is within the room leaves it to those after it, and one that is not decides
+within : (r a b : ℕ) → a ≤ r → ltb r (max a b) ≡ ltb r b
+within r a b h = elim (decLt r b) [
+  | yes g ↦ lt-ltb r (max a b) (omega arith) ∙ sym (lt-ltb r b g)
+  | no g ↦ le-ltb r (max a b) (omega arith) ∙ sym (le-ltb r b (omega arith))
+]
+
+module _ {f x : ℕ → ℕ} {n : ℕ} (l : Linked f x n) (k : ℕ → ℕ) (r j : ℕ) (d : j ≢ 0) (h : j < n) where
+  deep-rest : cond (isNode (k j)) (suc (depthAt k f x n (f j))) 0 ≤ r → ltb r (depthAt k f x n j) ≡ ltb r (depthAt k f x n (x j))
+  deep-rest g = ap (ltb r) (depth-cons l k j d h) ∙ within r _ _ g
+
+  -- no node
+  pub deep-leaf : isNode (k j) ≡ false → ltb r (depthAt k f x n j) ≡ ltb r (depthAt k f x n (x j))
+  deep-leaf e = deep-rest (rw e (omega arith))
+
+  -- a node whose own chain is within the room that it leaves
+  pub deep-within : r ≢ 0 → ltb (r - 1) (depthAt k f x n (f j)) ≡ false → ltb r (depthAt k f x n j) ≡ ltb r (depthAt k f x n (x j))
+  deep-within e g = deep-rest (go (isNode (k j)) (depthAt k f x n (f j)) (ltb-false (r - 1) _ g))
+    where
+      go : (b : Bool) (m : ℕ) → m ≤ r - 1 → cond b (suc m) 0 ≤ r
+      go true m q = omega (arith, e)
+      go false m q = omega arith
+
+  -- a node with no room, and one whose own chain is over the room that it leaves
+  deep-over : isNode (k j) ≡ true → r < suc (depthAt k f x n (f j)) → ltb r (depthAt k f x n j) ≡ true
+  deep-over e g = lt-ltb r _ (omega (arith, depth-cons l k j d h, ap (λ (b : Bool). cond b (suc (depthAt k f x n (f j))) 0) e))
+
+  pub deep-here : isNode (k j) ≡ true → r ≡ 0 → ltb r (depthAt k f x n j) ≡ true
+  deep-here e g = deep-over e (omega arith)
+
+  pub deep-below : isNode (k j) ≡ true → ltb (r - 1) (depthAt k f x n (f j)) ≡ true → ltb r (depthAt k f x n j) ≡ true
+  deep-below e g = deep-over e (omega (arith, ltb-true (r - 1) _ g))
+
+-- record 0 is a node that no other follows
+pub root-depth : {f x : ℕ → ℕ} {n : ℕ} → Links f x n → (k : ℕ → ℕ) → isNode (k 0) ≡ true → leb (depth (λ i. isNode (k i)) (root f x n)) 16 ≡ not (ltb 15 (depthAt k f x n (f 0)))
+unfolding root depth
+root-depth {f} {x} {n} l k e =
+    let a = depthAt k f x n (f 0) in
+    let z : depthAt k f x n (x 0) ≡ 0 = ap (depthAt k f x n) (l .root-next) ∙ depth-nil k f x n in
+    ap (λ (b : Bool). leb (max (cond b (suc a) 0) (depthAt k f x n (x 0))) 16) e ∙ go a (depthAt k f x n (x 0)) z
+  where
+    go : (a b : ℕ) → b ≡ 0 → leb (max (suc a) b) 16 ≡ not (ltb 15 a)
+    go a b e = elim (decLt 15 a) [
+      | yes g ↦ lt-leb (max (suc a) b) 16 (omega arith) ∙ sym (ap not (lt-ltb 15 a g))
+      | no g ↦ le-leb (max (suc a) b) 16 (omega arith) ∙ sym (ap not (le-ltb 15 a (omega arith)))
+    ]
+
+-- ---- the answer of checks 5 to 7, by the tests that lead to it
+module _ (k f x : ℕ → ℕ) (n : ℕ) where
+  pub shape-five : all (onceAt f x n) n ≡ false → 5 ≡ shapeOf k f x n
+  unfolding shapeOf lowest
+  shape-five a = rw a
+
+  pub shape-six : all (onceAt f x n) n ≡ true → (all (chainAt k f x n) n && isNode (k 0)) ≡ false → 6 ≡ shapeOf k f x n
+  unfolding shapeOf lowest
+  shape-six a b = rw (a, b)
+
+  shape-last : Links f x n → all (onceAt f x n) n ≡ true → (all (chainAt k f x n) n && isNode (k 0)) ≡ true → cond (ltb 15 (depthAt k f x n (f 0))) 7 0 ≡ shapeOf k f x n
+  unfolding shapeOf lowest
+  shape-last l a b = rw (a, b, root-depth l k (both _ (isNode (k 0)) b .1)) (go (ltb 15 (depthAt k f x n (f 0))))
+    where
+      go : (d : Bool) → _≡_ {A = ℕ} (cond d 7 0) (cond (not d) 0 7)
+      go true = refl
+      go false = refl
+
+  pub shape-seven : Links f x n → all (onceAt f x n) n ≡ true → (all (chainAt k f x n) n && isNode (k 0)) ≡ true → ltb 15 (depthAt k f x n (f 0)) ≡ true → 7 ≡ shapeOf k f x n
+  shape-seven l a b d = rw d at (shape-last l a b)
+
+  pub shape-none : Links f x n → all (onceAt f x n) n ≡ true → (all (chainAt k f x n) n && isNode (k 0)) ≡ true → ltb 15 (depthAt k f x n (f 0)) ≡ false → 0 ≡ shapeOf k f x n
+  shape-none l a b d = rw d at (shape-last l a b)

@@ -1,0 +1,308 @@
+// Checks 1 to 7 of document 01. One pass over the records fills tables of their kinds and links and makes checks 3
+// and 4; the others go by the tables.
+ghost use mathlib.Core.Path.{_≡_};
+ghost use mathlib.Core.Bool.{cond, _||_};
+ghost use Prim.Native.Nat.{ℕ, _+_, _-_, _*_, _≤_, _<_};
+ghost use lib.Dec.{ltb, eqb};
+ghost use lib.ListN.{length};
+ghost use Rattle.sheet.specs.Record.{countOf, bitsOf};
+ghost use Rattle.sheet.specs.Checks.{all, every, lengthOk, headerOk, recordOk, linkOk};
+ghost use Rattle.sheet.specs.Codes.{classOf, wantOf, lastOf, optionsTable, numbersTable, chainsTable, classesTable};
+ghost use Rattle.sheet.specs.Links.{at, linksAt, LinksIn, LinkedIn, Counted, onceIn, alongIn, chainIn, depthIn, shapeIn, Decoded};
+
+// 1
+pub fn length_ok(sheet: &[u8]) -> bool
+    ensures { λ r. ⌜ r ≡ lengthOk (now (sheet .entry)) ⌝ }
+{
+    if sheet.len() < 24 {
+        return false;
+    }
+    let n = crate::count(sheet);
+    (sheet.len() == 24 + 40 * n) & (1 <= n) & (n <= 256)
+}
+
+// 2
+pub fn header_ok(sheet: &[u8]) -> bool
+    requires { ⌜ 24 ≤ length (now sheet) ⌝ }
+    ensures { λ r. ⌜ r ≡ headerOk (now (sheet .entry)) ⌝ }
+{
+    let rate = crate::rate(sheet);
+    (8000 <= rate) & (rate <= 192000) & (crate::half(sheet, 2) == 0)
+}
+
+// k where number k - 1 of the record is set, and else t.
+fn last_set(r: &[u8], k: usize, t: u8) -> u8
+    requires { ⌜ (40 ≤ length (now r)) × (1 ≤ k) × (k ≤ 8) ⌝ }
+    ensures { λ x. ⌜ x ≡ cond (eqb (bitsOf (now (r .entry)) (k - 1)) 0) t k ⌝ }
+{
+    if crate::bits(r, k - 1) == 0 {
+        t
+    } else {
+        k as u8
+    }
+}
+
+// The place after the record's last number that is set. A number is read as one word, and no branch goes by what is
+// read: a loop over the numbers past those that the kind uses costs twice as much.
+fn last(r: &[u8]) -> u8
+    requires { ⌜ 40 ≤ length (now r) ⌝ }
+    ensures { λ x. ⌜ x ≡ lastOf (bitsOf (now (r .entry))) 8 ⌝ }
+{
+    let t = last_set(r, 4, last_set(r, 3, last_set(r, 2, last_set(r, 1, 0))));
+    last_set(r, 8, last_set(r, 7, last_set(r, 6, last_set(r, 5, t))))
+}
+
+// 3, of one record
+fn record_ok(r: &[u8], options: &[u8; 53], numbers: &[u8; 53]) -> bool
+    requires { ⌜ (40 ≤ length (now r)) × (now options ≡ optionsTable) × (now numbers ≡ numbersTable) ⌝ }
+    ensures { λ x. ⌜ x ≡ recordOk (now (r .entry)) ⌝ }
+{
+    let k = crate::kind(r);
+    (crate::option(r) < crate::kinds::options(options, k))
+        & (crate::half(r, 6) == 0)
+        & (last(r) <= crate::kinds::numbers(numbers, k))
+}
+
+// 4, of one link of record i, and of its two
+fn link_ok(i: usize, l: usize, n: usize) -> bool
+    ensures { λ r. ⌜ r ≡ linkOk i l n ⌝ }
+{
+    (l == 0) | ((i < l) & (l < n))
+}
+
+fn links_ok(n: usize, i: usize, l: usize, m: usize) -> bool
+    ensures { λ r. ⌜ r ≡ linksAt n i l m ⌝ }
+{
+    link_ok(i, l, n) & link_ok(i, m, n) & ((0 < i) | (m == 0))
+}
+
+// 3 and 4: fills the tables on the way.
+fn records_ok(
+    sheet: &[u8],
+    n: usize,
+    options: &[u8; 53],
+    numbers: &[u8; 53],
+    kinds: &mut [u8],
+    first: &mut [usize],
+    next: &mut [usize],
+) -> u8
+    requires { ⌜ (n ≡ countOf (now sheet)) × (n ≤ 256) × (length (now sheet) ≡ 24 + 40 * n) ⌝ }
+    requires { ⌜ (n ≤ length (now kinds)) × (n ≤ length (now first)) × (n ≤ length (now next)) ⌝ }
+    requires { ⌜ (now options ≡ optionsTable) × (now numbers ≡ numbersTable) ⌝ }
+    ensures { λ r. ⌜ Decoded (now (sheet .entry)) (now (kinds .exit)) (now (first .exit)) (now (next .exit)) r ⌝ }
+{
+    let mut records = true;
+    let mut links = true;
+    let mut i = 0usize;
+    while i < n {
+        let r = &sheet[24 + 40 * i..];
+        let f = crate::first(r);
+        let x = crate::next(r);
+        records = records & record_ok(r, options, numbers);
+        links = links & links_ok(n, i, f, x);
+        kinds[i] = crate::kind(r);
+        first[i] = f;
+        next[i] = x;
+        i += 1;
+    }
+    if records {
+        if links { 0 } else { 4 }
+    } else {
+        3
+    }
+}
+
+pub fn decode(
+    sheet: &[u8],
+    n: usize,
+    kinds: &mut [u8],
+    first: &mut [usize],
+    next: &mut [usize],
+) -> u8
+    requires { ⌜ (n ≡ countOf (now sheet)) × (n ≤ 256) × (length (now sheet) ≡ 24 + 40 * n) ⌝ }
+    requires { ⌜ (n ≤ length (now kinds)) × (n ≤ length (now first)) × (n ≤ length (now next)) ⌝ }
+    ensures { λ r. ⌜ Decoded (now (sheet .entry)) (now (kinds .exit)) (now (first .exit)) (now (next .exit)) r ⌝ }
+{
+    let options = crate::kinds::OPTIONS;
+    let numbers = crate::kinds::NUMBERS;
+    records_ok(sheet, n, &options, &numbers, kinds, first, next)
+}
+
+// How many links lead to each record; a link of 0 counts at 0.
+fn count_links(first: &[usize], next: &[usize], hits: &mut [u16])
+    requires { ⌜ LinksIn (now first) (now next) ⌝ }
+    requires { ⌜ (1 ≤ length (now first)) × (length (now first) ≤ 256) ⌝ }
+    requires { ⌜ (length (now first) ≤ length (now hits)) × ((j : ℕ) → at (now hits) j ≡ 0) ⌝ }
+    ensures { λ _. ⌜ Counted (at (now (first .entry))) (at (now (next .entry))) (length (now (first .entry))) (now (hits .exit)) (length (now (first .entry))) ⌝ }
+{
+    let mut i = 0usize;
+    while i < first.len() {
+        let f = first[i];
+        hits[f] = hits[f] + 1;
+        let x = next[i];
+        hits[x] = hits[x] + 1;
+        i += 1;
+    }
+}
+
+fn all_once(hits: &[u16], n: usize) -> bool
+    requires { ⌜ n ≤ length (now hits) ⌝ }
+    ensures { λ r. ⌜ r ≡ all (λ j. eqb j 0 || eqb (at (now (hits .entry)) j) 1) n ⌝ }
+{
+    let mut ok = true;
+    let mut j = 0usize;
+    while j < n {
+        ok = ok & ((j == 0) | (hits[j] == 1));
+        j += 1;
+    }
+    ok
+}
+
+fn once_in(first: &[usize], next: &[usize], hits: &mut [u16]) -> bool
+    requires { ⌜ LinksIn (now first) (now next) ⌝ }
+    requires { ⌜ (1 ≤ length (now first)) × (length (now first) ≤ 256) ⌝ }
+    requires { ⌜ (length (now first) ≤ length (now hits)) × ((j : ℕ) → at (now hits) j ≡ 0) ⌝ }
+    ensures { λ r. ⌜ r ≡ onceIn (now (first .entry)) (now (next .entry)) ⌝ }
+{
+    count_links(first, next, hits);
+    all_once(hits, first.len())
+}
+
+// 5
+fn once(first: &[usize], next: &[usize]) -> bool
+    requires { ⌜ LinksIn (now first) (now next) ⌝ }
+    requires { ⌜ (1 ≤ length (now first)) × (length (now first) ≤ 256) ⌝ }
+    ensures { λ r. ⌜ r ≡ onceIn (now (first .entry)) (now (next .entry)) ⌝ }
+{
+    let mut hits = [0u16; 256];
+    once_in(first, next, &mut hits)
+}
+
+// The chain of a record: whether each member is of a class, and how many there are.
+pub struct Tally {
+    pub all: bool,
+    pub count: usize,
+}
+
+fn members(
+    classes: &[u8; 53],
+    kinds: &[u8],
+    first: &[usize],
+    next: &[usize],
+    i: usize,
+    class: u8,
+) -> Tally
+    requires { ⌜ now classes ≡ classesTable ⌝ }
+    requires { ⌜ LinkedIn (now kinds) (now first) (now next) ⌝ }
+    requires { ⌜ i < length (now first) ⌝ }
+    ensures { λ r. ⌜ r .all ≡ every (λ k. eqb (classOf k) class) (alongIn (now (kinds .entry)) (now (first .entry)) (now (next .entry)) i) ⌝ }
+    ensures { λ r. ⌜ r .count ≡ length (alongIn (now (kinds .entry)) (now (first .entry)) (now (next .entry)) i) ⌝ }
+{
+    let mut all = true;
+    let mut count = 0usize;
+    let mut j = first[i];
+    while j != 0 {
+        all = all & (crate::kinds::class(classes, kinds[j]) == class);
+        count += 1;
+        j = next[j];
+    }
+    Tally { all, count }
+}
+
+// What the members of a chain are, by its code.
+fn wanted(c: u8) -> u8
+    ensures { λ r. ⌜ r ≡ wantOf c ⌝ }
+{
+    if c < 2 { 2 } else { c }
+}
+
+// 6, of the chain of record i. The codes 0 to 2 are the number of values, and from 3 on the number is free.
+fn chain_ok(
+    chains: &[u8; 53],
+    classes: &[u8; 53],
+    kinds: &[u8],
+    first: &[usize],
+    next: &[usize],
+    i: usize,
+) -> bool
+    requires { ⌜ (now chains ≡ chainsTable) × (now classes ≡ classesTable) ⌝ }
+    requires { ⌜ LinkedIn (now kinds) (now first) (now next) ⌝ }
+    requires { ⌜ i < length (now first) ⌝ }
+    ensures { λ r. ⌜ r ≡ chainIn (now (kinds .entry)) (now (first .entry)) (now (next .entry)) i ⌝ }
+{
+    let c = crate::kinds::chain(chains, kinds[i]);
+    let m = members(classes, kinds, first, next, i, wanted(c));
+    m.all & ((2 < c) | (m.count == c as usize))
+}
+
+fn all_chains(
+    chains: &[u8; 53],
+    classes: &[u8; 53],
+    kinds: &[u8],
+    first: &[usize],
+    next: &[usize],
+) -> bool
+    requires { ⌜ (now chains ≡ chainsTable) × (now classes ≡ classesTable) ⌝ }
+    requires { ⌜ LinkedIn (now kinds) (now first) (now next) ⌝ }
+    ensures { λ r. ⌜ r ≡ all (chainIn (now (kinds .entry)) (now (first .entry)) (now (next .entry))) (length (now (first .entry))) ⌝ }
+{
+    let mut ok = true;
+    let mut i = 0usize;
+    while i < first.len() {
+        ok = ok & chain_ok(chains, classes, kinds, first, next, i);
+        i += 1;
+    }
+    ok
+}
+
+fn chains_ok(kinds: &[u8], first: &[usize], next: &[usize]) -> bool
+    requires { ⌜ LinkedIn (now kinds) (now first) (now next) ⌝ }
+    ensures { λ r. ⌜ r ≡ all (chainIn (now (kinds .entry)) (now (first .entry)) (now (next .entry))) (length (now (first .entry))) ⌝ }
+{
+    let chains = crate::kinds::CHAINS;
+    let classes = crate::kinds::CLASSES;
+    all_chains(&chains, &classes, kinds, first, next)
+}
+
+// Whether nodes nest deeper than `room` from record `start` on: along the chain by a loop, into each node's own chain by
+// a call, which ends where there is no room left. Links climb, so what is left above the index falls.
+fn deeper(kinds: &[u8], first: &[usize], next: &[usize], start: usize, room: usize) -> bool
+    requires { ⌜ LinkedIn (now kinds) (now first) (now next) ⌝ }
+    requires { ⌜ start < length (now first) ⌝ }
+    ensures { λ r. ⌜ r ≡ ltb room (depthIn (now (kinds .entry)) (now (first .entry)) (now (next .entry)) start) ⌝ }
+{
+    let mut j = start;
+    while j != 0 {
+        if crate::kinds::is_node(kinds[j]) {
+            if room == 0 {
+                return true;
+            }
+            if deeper(kinds, first, next, first[j], room - 1) {
+                return true;
+            }
+        }
+        j = next[j];
+    }
+    false
+}
+
+// 5, 6 and 7, by the tables
+pub fn shape(kinds: &[u8], first: &[usize], next: &[usize]) -> u8
+    requires { ⌜ LinksIn (now first) (now next) ⌝ }
+    requires { ⌜ (length (now kinds) ≡ length (now first)) × (1 ≤ length (now first)) × (length (now first) ≤ 256) ⌝ }
+    ensures { λ r. ⌜ r ≡ shapeIn (now (kinds .entry)) (now (first .entry)) (now (next .entry)) ⌝ }
+{
+    if once(first, next) {
+        if chains_ok(kinds, first, next) & crate::kinds::is_node(kinds[0]) {
+            if deeper(kinds, first, next, first[0], 15) {
+                7
+            } else {
+                0
+            }
+        } else {
+            6
+        }
+    } else {
+        5
+    }
+}

@@ -1,0 +1,12 @@
+-- `source::sine` meets its contract. Assumes nothing.
+use Rattle.source.specs.Oscillators.{sineOf}
+use borrow.Author.Needs.{needs}
+use Rattle.source.proofs.sine.Statement.{statement}
+use Rattle.source.proofs.sine.Tie as tie
+
+returns : tie.Need-returns
+unfolding sineOf
+returns c = rw (c .wrap .ensures, c .before .step-of .ensures, c .before .before .osc .ensures)
+
+pub sine-spec : {M : Type 1} → statement M
+sine-spec = tie.close (tie.spec (λ c κs. search needs) (λ c κs. search needs) (λ c κs. search needs) returns)

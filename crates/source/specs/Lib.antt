@@ -1,0 +1,2 @@
+pub mod Oscillators
+pub mod Others

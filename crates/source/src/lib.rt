@@ -1,0 +1,272 @@
+// The sources for one sample: values in, a struct of the sample and the new state out.
+ghost use mathlib.Core.Path.{_≡_};
+ghost use Rattle.source.specs.Oscillators.{increment, hertz, advance, sineOf, pulseLevel, pulse, squareOf, sawAt, sawOf, halfPulse, triangleOf, fmOf, superVoice};
+ghost use Rattle.source.specs.Others.{impactWidth, impactNorm, impactOf, envOf, whiteOf, pinkOf, brownOf, dustChance, dustDecay, dustOf};
+
+pub struct Phased {
+    pub out: f32,
+    pub phase: f32,
+}
+
+pub struct TriangleOut {
+    pub out: f32,
+    pub phase: f32,
+    pub tri: f32,
+}
+
+pub struct FmOut {
+    pub out: f32,
+    pub cph: f32,
+    pub mph: f32,
+}
+
+// A sample and the generator's next word.
+pub struct Drawn {
+    pub out: f32,
+    pub word: u64,
+}
+
+// Pink noise's seven poles, beside the colour: an enum cannot hold an array.
+pub struct Poles {
+    pub b: [f32; 7],
+}
+
+pub struct PinkOut {
+    pub out: f32,
+    pub word: u64,
+    pub poles: Poles,
+}
+
+pub struct BrownOut {
+    pub out: f32,
+    pub word: u64,
+    pub last: f32,
+}
+
+pub struct DustOut {
+    pub out: f32,
+    pub word: u64,
+    pub y: f32,
+}
+
+fn step_of(f: f32, pitch: f32, srf: f32) -> f32
+    ensures { λ r. ⌜ r ≡ increment f pitch srf ⌝ }
+{
+    float::max0(f) * pitch / srf
+}
+
+pub fn sine(f: f32, pitch: f32, srf: f32, phase: f32) -> Phased
+    ensures { λ r. ⌜ r ≡ sineOf f pitch srf phase ⌝ }
+{
+    let out = render::osc(dsl::Shape::Sine, phase);
+    let next = float::wrap(phase + step_of(f, pitch, srf));
+    Phased { out, phase: next }
+}
+
+// 1 up to the duty and -1 from there.
+fn level_at(phase: f32, duty: f32) -> f32
+    ensures { λ r. ⌜ r ≡ pulseLevel phase duty ⌝ }
+{
+    if phase < duty { 1.0 } else { -1.0 }
+}
+
+fn pulse_at(phase: f32, duty: f32, dt: f32) -> f32
+    ensures { λ r. ⌜ r ≡ pulse phase duty dt ⌝ }
+{
+    level_at(phase, duty) + render::poly_blep(phase, dt)
+        - render::poly_blep(float::fract(phase - duty + 1.0), dt)
+}
+
+pub fn square(f: f32, duty: f32, pitch: f32, srf: f32, phase: f32) -> Phased
+    ensures { λ r. ⌜ r ≡ squareOf f duty pitch srf phase ⌝ }
+{
+    let dt = step_of(f, pitch, srf);
+    let out = pulse_at(phase, float::clamp(duty, 0.01, 0.99), dt);
+    let next = float::wrap(phase + dt);
+    Phased { out, phase: next }
+}
+
+fn saw_at(phase: f32, dt: f32) -> f32
+    ensures { λ r. ⌜ r ≡ sawAt phase dt ⌝ }
+{
+    (2.0 * phase - 1.0) - render::poly_blep(phase, dt)
+}
+
+pub fn saw(f: f32, pitch: f32, srf: f32, phase: f32) -> Phased
+    ensures { λ r. ⌜ r ≡ sawOf f pitch srf phase ⌝ }
+{
+    let dt = step_of(f, pitch, srf);
+    let out = saw_at(phase, dt);
+    let next = float::wrap(phase + dt);
+    Phased { out, phase: next }
+}
+
+fn half_pulse(phase: f32, dt: f32) -> f32
+    ensures { λ r. ⌜ r ≡ halfPulse phase dt ⌝ }
+{
+    level_at(phase, 0.5) + render::poly_blep(phase, dt)
+        - render::poly_blep(float::fract(phase + 0.5), dt)
+}
+
+pub fn triangle(f: f32, pitch: f32, srf: f32, phase: f32, tri: f32) -> TriangleOut
+    ensures { λ r. ⌜ r ≡ triangleOf f pitch srf phase tri ⌝ }
+{
+    let dt = step_of(f, pitch, srf);
+    let y = tri * 0.9995 + 4.0 * dt * half_pulse(phase, dt);
+    let next = float::wrap(phase + dt);
+    TriangleOut {
+        out: y,
+        phase: next,
+        tri: y,
+    }
+}
+
+pub fn fm(f: f32, index: f32, ratio: f32, pitch: f32, srf: f32, cph: f32, mph: f32) -> FmOut
+    ensures { λ r. ⌜ r ≡ fmOf f index ratio pitch srf cph mph ⌝ }
+{
+    let m = index * dsp::sin(6.2831855 * mph);
+    let out = dsp::sin(6.2831855 * cph + m);
+    let fi = float::max0(f) * pitch;
+    let c = float::wrap(cph + fi / srf);
+    let n = float::wrap(mph + fi * ratio / srf);
+    FmOut {
+        out,
+        cph: c,
+        mph: n,
+    }
+}
+
+// One voice: f is the frequency times the pitch already.
+pub fn super_voice(wave: dsl::SuperWave, f: f32, ratio: f32, srf: f32, phase: f32) -> Phased
+    ensures { λ r. ⌜ r ≡ superVoice wave f ratio srf phase ⌝ }
+{
+    let dt = f * ratio / srf;
+    let next = float::wrap(phase + dt);
+    match wave {
+        dsl::SuperWave::Sawtooth => Phased {
+            out: saw_at(phase, dt),
+            phase: next,
+        },
+        dsl::SuperWave::Square => Phased {
+            out: half_pulse(phase, dt),
+            phase: next,
+        },
+    }
+}
+
+// ---- Impact
+
+pub fn impact_width(hardness: f32, srf: f32) -> u64
+    ensures { λ r. ⌜ r ≡ impactWidth hardness srf ⌝ }
+{
+    let h = float::clamp(hardness, 0.0, 1.0);
+    lines::at_least_one(cast::f32_to_u64(float::round((0.008 * (1.0 - h) + 0.0003 * h) * srf)))
+}
+
+pub fn impact_norm(velocity: f32, w: u64) -> f32
+    ensures { λ r. ⌜ r ≡ impactNorm velocity w ⌝ }
+{
+    float::clamp(velocity, 0.0, 1.0) / (0.5 * cast::u64_to_f32(w))
+}
+
+pub fn impact(w: u64, norm: f32, t: u64) -> f32
+    ensures { λ r. ⌜ r ≡ impactOf w norm t ⌝ }
+{
+    if t < w {
+        let phase = (cast::u64_to_f32(t) + 0.5) / cast::u64_to_f32(w);
+        return norm * 0.5 * (1.0 - dsp::cos(6.2831855 * phase));
+    }
+    0.0
+}
+
+// ---- Env
+
+pub fn env(a: f32, d: f32, s: f32, r: f32, punch: f32, srf: f32, rel_start: f32, t: u64) -> f32
+    ensures { λ v. ⌜ v ≡ envOf a d s r punch srf «rel_start» t ⌝ }
+{
+    dsp::adsr_env(value::seconds(t, srf), a, d, s, r, punch, rel_start)
+}
+
+// ---- noises
+
+pub fn white(word: u64) -> Drawn
+    ensures { λ r. ⌜ r ≡ whiteOf word ⌝ }
+{
+    let d = dsp::bi(word);
+    Drawn {
+        out: d.x,
+        word: d.state,
+    }
+}
+
+// Paul Kellet's filter.
+pub fn pink(word: u64, poles: Poles) -> PinkOut
+    ensures { λ r. ⌜ r ≡ pinkOf word poles ⌝ }
+{
+    let d = dsp::bi(word);
+    let w = d.x;
+    let b = poles.b;
+    let b0 = 0.99886 * b[0] + w * 0.0555179;
+    let b1 = 0.99332 * b[1] + w * 0.0750759;
+    let b2 = 0.96900 * b[2] + w * 0.153852;
+    let b3 = 0.86650 * b[3] + w * 0.3104856;
+    let b4 = 0.55000 * b[4] + w * 0.5329522;
+    let b5 = -0.7616 * b[5] - w * 0.0168980;
+    let v = b0 + b1 + b2 + b3 + b4 + b5 + b[6] + w * 0.5362;
+    let next = [b0, b1, b2, b3, b4, b5, w * 0.115926];
+    PinkOut {
+        out: v * 0.11,
+        word: d.state,
+        poles: Poles { b: next },
+    }
+}
+
+pub fn brown(word: u64, last: f32) -> BrownOut
+    ensures { λ r. ⌜ r ≡ brownOf word last ⌝ }
+{
+    let d = dsp::bi(word);
+    let l = (last + 0.02 * d.x) * 0.998;
+    BrownOut {
+        out: float::clamp(l * 8.0, -1.0, 1.0),
+        word: d.state,
+        last: l,
+    }
+}
+
+// ---- Dust
+
+pub fn dust_chance(density: f32, srf: f32) -> f32
+    ensures { λ r. ⌜ r ≡ dustChance density srf ⌝ }
+{
+    float::clamp(density / srf, 0.0, 1.0)
+}
+
+pub fn dust_decay(decay: f32, srf: f32) -> f32
+    ensures { λ r. ⌜ r ≡ dustDecay decay srf ⌝ }
+{
+    if decay > 0.0 {
+        return dsp::one_pole(decay, srf);
+    }
+    0.0
+}
+
+pub fn dust(word: u64, p: f32, g: f32, y: f32) -> DustOut
+    ensures { λ r. ⌜ r ≡ dustOf word p g y ⌝ }
+{
+    let d = dsp::unit(word);
+    if d.x < p {
+        let e = dsp::bi(d.state);
+        let z = e.x + g * y;
+        return DustOut {
+            out: z,
+            word: e.state,
+            y: z,
+        };
+    }
+    let z = 0.0 + g * y;
+    DustOut {
+        out: z,
+        word: d.state,
+        y: z,
+    }
+}

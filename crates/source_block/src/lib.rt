@@ -1,0 +1,226 @@
+// The sources over a block: what the one-sample kernel gives, sample after sample, with the state in locals. f, duty and index are
+// buffers of the values, pitch that of the pitch times the bend.
+ghost use mathlib.Core.Path.{_≡_};
+ghost use Prim.Native.Nat.{_+_, _^_, _≤_, _<_};
+ghost use lib.ListN.{length};
+ghost use Rattle.block.specs.Iterate.{given, after};
+ghost use Rattle.source_block.specs.Steps.{sineStep, squareStep, sawStep, triangleStep, fmStep, whiteStep, pinkState, pinkStep, brownStep, dustStep, impactStep, envStep};
+
+pub struct Triangle {
+    pub phase: f32,
+    pub tri: f32,
+}
+
+pub struct Fm {
+    pub cph: f32,
+    pub mph: f32,
+}
+
+pub struct Pink {
+    pub word: u64,
+    pub poles: source::Poles,
+}
+
+pub struct Brown {
+    pub word: u64,
+    pub last: f32,
+}
+
+pub struct Dust {
+    pub word: u64,
+    pub y: f32,
+}
+
+pub fn sine_block(out: &mut [f32], f: &[f32], pitch: &[f32], srf: f32, phase: f32) -> f32
+    requires { ⌜ (length (now out) ≤ length (now f)) × (length (now out) ≤ length (now pitch)) ⌝ }
+    ensures { λ v. ⌜ (now (out .exit) ≡ given (sineStep (now (f .entry)) (now (pitch .entry)) srf) phase (length (now (out .entry)))) × (v ≡ after (sineStep (now (f .entry)) (now (pitch .entry)) srf) phase (length (now (out .entry)))) ⌝ }
+{
+    let mut p = phase;
+    let mut k: usize = 0;
+    while k < out.len() {
+        let s = source::sine(f[k], pitch[k], srf, p);
+        out[k] = s.out;
+        p = s.phase;
+        k += 1;
+    }
+    p
+}
+
+pub fn square_block(
+    out: &mut [f32],
+    f: &[f32],
+    duty: &[f32],
+    pitch: &[f32],
+    srf: f32,
+    phase: f32,
+) -> f32
+    requires { ⌜ (length (now out) ≤ length (now f)) × (length (now out) ≤ length (now duty)) × (length (now out) ≤ length (now pitch)) ⌝ }
+    ensures { λ v. ⌜ (now (out .exit) ≡ given (squareStep (now (f .entry)) (now (duty .entry)) (now (pitch .entry)) srf) phase (length (now (out .entry)))) × (v ≡ after (squareStep (now (f .entry)) (now (duty .entry)) (now (pitch .entry)) srf) phase (length (now (out .entry)))) ⌝ }
+{
+    let mut p = phase;
+    let mut k: usize = 0;
+    while k < out.len() {
+        let s = source::square(f[k], duty[k], pitch[k], srf, p);
+        out[k] = s.out;
+        p = s.phase;
+        k += 1;
+    }
+    p
+}
+
+pub fn saw_block(out: &mut [f32], f: &[f32], pitch: &[f32], srf: f32, phase: f32) -> f32
+    requires { ⌜ (length (now out) ≤ length (now f)) × (length (now out) ≤ length (now pitch)) ⌝ }
+    ensures { λ v. ⌜ (now (out .exit) ≡ given (sawStep (now (f .entry)) (now (pitch .entry)) srf) phase (length (now (out .entry)))) × (v ≡ after (sawStep (now (f .entry)) (now (pitch .entry)) srf) phase (length (now (out .entry)))) ⌝ }
+{
+    let mut p = phase;
+    let mut k: usize = 0;
+    while k < out.len() {
+        let s = source::saw(f[k], pitch[k], srf, p);
+        out[k] = s.out;
+        p = s.phase;
+        k += 1;
+    }
+    p
+}
+
+pub fn triangle_block(out: &mut [f32], f: &[f32], pitch: &[f32], srf: f32, s: Triangle) -> Triangle
+    requires { ⌜ (length (now out) ≤ length (now f)) × (length (now out) ≤ length (now pitch)) ⌝ }
+    ensures { λ v. ⌜ (now (out .exit) ≡ given (triangleStep (now (f .entry)) (now (pitch .entry)) srf) s (length (now (out .entry)))) × (v ≡ after (triangleStep (now (f .entry)) (now (pitch .entry)) srf) s (length (now (out .entry)))) ⌝ }
+{
+    let mut p = s;
+    let mut k: usize = 0;
+    while k < out.len() {
+        let s = source::triangle(f[k], pitch[k], srf, p.phase, p.tri);
+        out[k] = s.out;
+        p = Triangle {
+            phase: s.phase,
+            tri: s.tri,
+        };
+        k += 1;
+    }
+    p
+}
+
+pub fn fm_block(
+    out: &mut [f32],
+    f: &[f32],
+    index: &[f32],
+    pitch: &[f32],
+    ratio: f32,
+    srf: f32,
+    s: Fm,
+) -> Fm
+    requires { ⌜ (length (now out) ≤ length (now f)) × (length (now out) ≤ length (now index)) × (length (now out) ≤ length (now pitch)) ⌝ }
+    ensures { λ v. ⌜ (now (out .exit) ≡ given (fmStep (now (f .entry)) (now (index .entry)) (now (pitch .entry)) ratio srf) s (length (now (out .entry)))) × (v ≡ after (fmStep (now (f .entry)) (now (index .entry)) (now (pitch .entry)) ratio srf) s (length (now (out .entry)))) ⌝ }
+{
+    let mut p = s;
+    let mut k: usize = 0;
+    while k < out.len() {
+        let s = source::fm(f[k], index[k], ratio, pitch[k], srf, p.cph, p.mph);
+        out[k] = s.out;
+        p = Fm {
+            cph: s.cph,
+            mph: s.mph,
+        };
+        k += 1;
+    }
+    p
+}
+
+pub fn white_block(out: &mut [f32], word: u64) -> u64
+    ensures { λ v. ⌜ (now (out .exit) ≡ given whiteStep word (length (now (out .entry)))) × (v ≡ after whiteStep word (length (now (out .entry)))) ⌝ }
+{
+    let mut p = word;
+    let mut k: usize = 0;
+    while k < out.len() {
+        let s = source::white(p);
+        out[k] = s.out;
+        p = s.word;
+        k += 1;
+    }
+    p
+}
+
+pub fn brown_block(out: &mut [f32], s: Brown) -> Brown
+    ensures { λ v. ⌜ (now (out .exit) ≡ given brownStep s (length (now (out .entry)))) × (v ≡ after brownStep s (length (now (out .entry)))) ⌝ }
+{
+    let mut p = s;
+    let mut k: usize = 0;
+    while k < out.len() {
+        let s = source::brown(p.word, p.last);
+        out[k] = s.out;
+        p = Brown {
+            word: s.word,
+            last: s.last,
+        };
+        k += 1;
+    }
+    p
+}
+
+// chance and decay are `dust_chance` and `dust_decay` of the sheet, worked out once.
+pub fn dust_block(out: &mut [f32], chance: f32, decay: f32, s: Dust) -> Dust
+    ensures { λ v. ⌜ (now (out .exit) ≡ given (dustStep chance decay) s (length (now (out .entry)))) × (v ≡ after (dustStep chance decay) s (length (now (out .entry)))) ⌝ }
+{
+    let mut p = s;
+    let mut k: usize = 0;
+    while k < out.len() {
+        let s = source::dust(p.word, chance, decay, p.y);
+        out[k] = s.out;
+        p = Dust {
+            word: s.word,
+            y: s.y,
+        };
+        k += 1;
+    }
+    p
+}
+
+// w and norm are `impact_width` and `impact_norm` of the sheet, worked out once.
+pub fn impact_block(out: &mut [f32], w: u64, norm: f32, t: u64)
+    requires { ⌜ (t + length (now out) < 2 ^ 64) ⌝ }
+    ensures { λ v. ⌜ (now (out .exit) ≡ given (impactStep w norm t) tt (length (now (out .entry)))) ⌝ }
+{
+    let mut k: usize = 0;
+    while k < out.len() {
+        out[k] = source::impact(w, norm, t + (k as u64));
+        k += 1;
+    }
+}
+
+pub fn env_block(
+    out: &mut [f32],
+    a: f32,
+    d: f32,
+    s: f32,
+    r: f32,
+    punch: f32,
+    srf: f32,
+    rel_start: f32,
+    t: u64,
+)
+    requires { ⌜ (t + length (now out) < 2 ^ 64) ⌝ }
+    ensures { λ v. ⌜ (now (out .exit) ≡ given (envStep a d s r punch srf «rel_start» t) tt (length (now (out .entry)))) ⌝ }
+{
+    let mut k: usize = 0;
+    while k < out.len() {
+        out[k] = source::env(a, d, s, r, punch, srf, rel_start, t + (k as u64));
+        k += 1;
+    }
+}
+
+pub fn pink_block(out: &mut [f32], word: u64, poles: source::Poles) -> Pink
+    ensures { λ v. ⌜ (now (out .exit) ≡ given pinkStep (pinkState word poles) (length (now (out .entry)))) × (v ≡ after pinkStep (pinkState word poles) (length (now (out .entry)))) ⌝ }
+{
+    let mut w = word;
+    let mut b = poles;
+    let mut k: usize = 0;
+    while k < out.len() {
+        let s = source::pink(w, b);
+        out[k] = s.out;
+        w = s.word;
+        b = s.poles;
+        k += 1;
+    }
+    Pink { word: w, poles: b }
+}

@@ -1,0 +1,77 @@
+-- The values of document 01 for one sample. t is the position as an f32, srf the rate; what depends on the sheet alone is given: secs floored, the release's start, Rand's increment.
+use mathlib.Core.Bool.{Bool, true, false, cond, _&&_}
+use Prim.Native.Nat.{ℕ, zero, suc, _%_}
+use lib.IntN.{pos}
+use lib.Ieee.{Float, binary32, lt, le, ofBits, ofInt, toUnsigned}
+use Rattle.float.specs.Whole.{fractOf}
+use Rattle.float.specs.Order.{maxOf, minOf, clampOf}
+use Rattle.float.specs.Single.{_⊕_, _⊖_, _⊗_, _⊘_, zero as zeroF, one, two, three}
+use Rattle.dsp.specs.Random.{stepped, rangeOf}
+use Rattle.dsp.specs.Math.{power}
+use Rattle.dsp.specs.Envelope.{adsrOf}
+use Rattle.render.specs.Osc.{oscOf}
+use Rattle.dsl.specs.declared.Shape.{Shape}
+use Rattle.dsl.specs.declared.Curve.{Curve}
+use Rattle.dsl.specs.declared.Curve.the-variants.{Lin, Exp}
+use Rattle.value.specs.declared.Rand.{Rand}
+
+-- the position in seconds
+abbrev pub secondsOf : ℕ → Float → Float
+secondsOf t srf = ofInt binary32 (pos t) ⊘ srf
+
+-- from one number to another, a part p of the way
+abbrev pub towards : Float → Float → Float → Float
+towards from to p = from ⊕ (to ⊖ from) ⊗ p
+
+-- Slide: over secs, at least a millionth, along a line, or along a geometric curve where both ends are above 0 and a parabola where not
+unfoldable pub slideSecs : Float → Float
+slideSecs secs = maxOf secs (ofBits binary32 0x3586_37bd)
+
+unfoldable pub slideExp : Float → Float → Float → Float
+slideExp from to p = cond (lt zeroF from && lt zeroF to) (from ⊗ power (to ⊘ from) p) (towards from to (p ⊗ p))
+
+unfoldable pub slideOf : Curve → Float → Float → Float → Float → ℕ → Float
+slideOf Lin from to secs srf t = towards from to (clampOf (secondsOf t srf ⊘ secs) zeroF one)
+slideOf Exp from to secs srf t = slideExp from to (clampOf (secondsOf t srf ⊘ secs) zeroF one)
+
+-- Lfo: the phase is the fraction of the turns made, which is negative where the rate is
+unfoldable pub lfoPhase : Float → Float → ℕ → Float
+lfoPhase rate srf t = fractOf binary32 (secondsOf t srf ⊗ rate)
+
+unfoldable pub lfoOf : Shape → Float → Float → Float → Float → ℕ → Float
+lfoOf shape rate depth center srf t = center ⊕ depth ⊗ oscOf shape (lfoPhase rate srf t)
+
+-- Arp: which of n steps sounds, n above 0
+unfoldable pub arpIndex : Float → Float → ℕ → ℕ → ℕ
+arpIndex rate srf t n = toUnsigned 64 (secondsOf t srf ⊗ rate) % n
+
+-- the release of an envelope starts r seconds before the sheet's length n, and not before 0
+unfoldable pub releaseStart : ℕ → Float → Float → Float
+releaseStart n srf r = maxOf (ofInt binary32 (pos n) ⊘ srf ⊖ r) zeroF
+
+unfoldable pub envModOf : Float → Float → Float → Float → Float → Float → Float → Float → Float → ℕ → Float
+envModOf a d s r punch from to srf relStart t = towards from to (adsrOf (secondsOf t srf) a d s r punch relStart)
+
+-- Rand: a walk between numbers drawn one after another, smoothed by 3 p² - 2 p³ in each segment. The increment is how many segments a sample makes, at most 64.
+unfoldable pub randIncrement : Float → Float → Float
+randIncrement rate srf = minOf (maxOf rate (ofBits binary32 0x38d1_b717) ⊘ srf) (ofBits binary32 0x4280_0000)
+
+unfoldable pub randOut : Rand → Float
+randOut s =
+    let p = s .phase in
+    s .prev ⊕ (s .next ⊖ s .prev) ⊗ (p ⊗ p ⊗ (three ⊖ two ⊗ p))
+
+-- one segment is done: the next number is drawn
+unfoldable pub randTurn : Float → Float → Rand → Rand
+randTurn from to s = record { word = stepped (s .word); prev = s .next; next = rangeOf (s .word) from to; phase = s .phase ⊖ one }
+
+-- while the phase is 1 or more, n times at most; the test is an argument. An increment of at most 64 on a phase below 1 takes at most 65.
+unfoldable pub catchUp : ℕ → Bool → Float → Float → Rand → Rand
+catchUp zero more from to s = s
+catchUp (suc n) false from to s = s
+catchUp (suc n) true from to s = let r = randTurn from to s in catchUp n (le one (r .phase)) from to r
+
+unfoldable pub randNext : Float → Float → Float → Rand → Rand
+randNext inc from to s =
+    let r : Rand = record { word = s .word; prev = s .prev; next = s .next; phase = s .phase ⊕ inc } in
+    catchUp 65 (le one (r .phase)) from to r

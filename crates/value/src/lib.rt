@@ -1,0 +1,156 @@
+// The values for one sample. What depends on the sheet alone (Slide's floored secs, the release's start, Rand's increment) is
+// worked out by functions of their own, once per block.
+ghost use mathlib.Core.Path.{_≡_};
+ghost use mathlib.Core.Bool.{false, true, not};
+ghost use Prim.Native.Nat.{_<_, _%_};
+ghost use lib.Dec.{T};
+ghost use lib.IntN.{pos};
+ghost use lib.Ieee as Ieee;
+ghost use lib.Ieee.{fin};
+ghost use Rattle.value.specs.Modulators.{secondsOf, slideSecs, slideOf, lfoPhase, lfoOf, arpIndex, releaseStart, envModOf, randIncrement, randOut, randTurn, randNext};
+
+// The position in seconds.
+pub fn seconds(t: u64, srf: f32) -> f32
+    ensures { λ r. ⌜ r ≡ secondsOf t srf ⌝ }
+{
+    cast::u64_to_f32(t) / srf
+}
+
+// A Slide of no length would divide by zero.
+pub fn slide_secs(secs: f32) -> f32
+    ensures { λ r. ⌜ r ≡ slideSecs secs ⌝ }
+{
+    float::max(secs, 1e-6)
+}
+
+fn lin(from: f32, to: f32, p: f32) -> f32
+    ensures { λ r. ⌜ r ≡ Rattle.value.specs.Modulators.towards from to p ⌝ }
+{
+    from + (to - from) * p
+}
+
+fn slide_exp(from: f32, to: f32, p: f32) -> f32
+    ensures { λ r. ⌜ r ≡ Rattle.value.specs.Modulators.slideExp from to p ⌝ }
+{
+    if from > 0.0 && to > 0.0 {
+        from * dsp::powf(to / from, p)
+    } else {
+        lin(from, to, p * p)
+    }
+}
+
+pub fn slide(curve: dsl::Curve, from: f32, to: f32, secs: f32, srf: f32, t: u64) -> f32
+    ensures { λ r. ⌜ r ≡ slideOf curve from to secs srf t ⌝ }
+{
+    let p = float::clamp(seconds(t, srf) / secs, 0.0, 1.0);
+    match curve {
+        dsl::Curve::Lin => lin(from, to, p),
+        dsl::Curve::Exp => slide_exp(from, to, p),
+    }
+}
+
+// The fraction of the turns made: `fract`, not floor, so that a negative rate has a negative phase, as in the Rust.
+pub fn lfo_phase(rate: f32, srf: f32, t: u64) -> f32
+    ensures { λ r. ⌜ r ≡ lfoPhase rate srf t ⌝ }
+{
+    float::fract(seconds(t, srf) * rate)
+}
+
+pub fn lfo(shape: dsl::Shape, rate: f32, depth: f32, center: f32, srf: f32, t: u64) -> f32
+    ensures { λ r. ⌜ r ≡ lfoOf shape rate depth center srf t ⌝ }
+{
+    center + depth * render::osc(shape, lfo_phase(rate, srf, t))
+}
+
+// Which of n steps sounds.
+pub fn arp_index(rate: f32, srf: f32, t: u64, n: u64) -> u64
+    requires { ⌜ 0 < n ⌝ }
+    ensures { λ r. ⌜ r ≡ arpIndex rate srf t n ⌝ }
+{
+    cast::f32_to_u64(seconds(t, srf) * rate) % n
+}
+
+// Where the release starts: r seconds before the sheet's length n, and not before 0.
+pub fn release_start(n: u64, srf: f32, r: f32) -> f32
+    ensures { λ v. ⌜ v ≡ releaseStart n srf r ⌝ }
+{
+    float::max0(cast::u64_to_f32(n) / srf - r)
+}
+
+pub fn env_mod(
+    a: f32,
+    d: f32,
+    s: f32,
+    r: f32,
+    punch: f32,
+    from: f32,
+    to: f32,
+    srf: f32,
+    rel_start: f32,
+    t: u64,
+) -> f32
+    ensures { λ v. ⌜ v ≡ envModOf a d s r punch from to srf «rel_start» t ⌝ }
+{
+    lin(
+        from,
+        to,
+        dsp::adsr_env(seconds(t, srf), a, d, s, r, punch, rel_start),
+    )
+}
+
+// Rand's walk: the generator's word, the two numbers of the segment and the phase in it.
+pub struct Rand {
+    pub word: u64,
+    pub prev: f32,
+    pub next: f32,
+    pub phase: f32,
+}
+
+// How many segments a sample makes: at most 64, so that the catch-up below ends soon.
+pub fn rand_increment(rate: f32, srf: f32) -> f32
+    ensures { λ r. ⌜ r ≡ randIncrement rate srf ⌝ }
+{
+    float::min(float::max(rate, 1e-4) / srf, 64.0)
+}
+
+pub fn rand_out(s: Rand) -> f32
+    ensures { λ r. ⌜ r ≡ randOut s ⌝ }
+{
+    let p = s.phase;
+    let sm = p * p * (3.0 - 2.0 * p);
+    s.prev + (s.next - s.prev) * sm
+}
+
+fn rand_turn(from: f32, to: f32, s: Rand) -> Rand
+    ensures { λ r. ⌜ r ≡ randTurn from to s ⌝ }
+{
+    let d = dsp::range(s.word, from, to);
+    Rand {
+        word: d.state,
+        prev: s.next,
+        next: d.x,
+        phase: s.phase - 1.0,
+    }
+}
+
+// Takes as many turns as the phase has gone past, at most 65: the increment is at most 64 and the phase was below 1.
+pub fn rand_next(inc: f32, from: f32, to: f32, s: Rand) -> Rand
+    ensures { λ r. ⌜ r ≡ randNext inc from to s ⌝ }
+{
+    let mut n: u64 = 65;
+    let mut r = Rand {
+        word: s.word,
+        prev: s.prev,
+        next: s.next,
+        phase: s.phase + inc,
+    };
+    while n > 0 {
+        if r.phase >= 1.0 {
+            r = rand_turn(from, to, r);
+            n -= 1;
+        } else {
+            return r;
+        }
+    }
+    r
+}

@@ -1,0 +1,94 @@
+// The values over a block, each into a buffer: what the one-sample kernel gives, sample after sample from the position t.
+ghost use mathlib.Core.Path.{_≡_};
+ghost use Prim.Native.Nat.{_+_, _^_, _<_};
+ghost use lib.ListN.{length};
+ghost use Rattle.block.specs.Iterate.{given, after};
+ghost use Rattle.value_block.specs.Steps.{constantStep, slideStep, lfoStep, envModStep, randStep};
+
+// A Const: the same number throughout.
+pub fn constant_block(out: &mut [f32], x: f32)
+    ensures { λ v. ⌜ (now (out .exit) ≡ given (constantStep x) tt (length (now (out .entry)))) ⌝ }
+{
+    let mut k: usize = 0;
+    while k < out.len() {
+        out[k] = x;
+        k += 1;
+    }
+}
+
+// secs is `slide_secs` of the sheet, worked out once.
+pub fn slide_block(
+    out: &mut [f32],
+    curve: dsl::Curve,
+    from: f32,
+    to: f32,
+    secs: f32,
+    srf: f32,
+    t: u64,
+)
+    requires { ⌜ (t + length (now out) < 2 ^ 64) ⌝ }
+    ensures { λ v. ⌜ (now (out .exit) ≡ given (slideStep curve from to secs srf t) tt (length (now (out .entry)))) ⌝ }
+{
+    let mut k: usize = 0;
+    while k < out.len() {
+        out[k] = value::slide(curve, from, to, secs, srf, t + (k as u64));
+        k += 1;
+    }
+}
+
+pub fn lfo_block(
+    out: &mut [f32],
+    shape: dsl::Shape,
+    rate: f32,
+    depth: f32,
+    center: f32,
+    srf: f32,
+    t: u64,
+)
+    requires { ⌜ (t + length (now out) < 2 ^ 64) ⌝ }
+    ensures { λ v. ⌜ (now (out .exit) ≡ given (lfoStep shape rate depth center srf t) tt (length (now (out .entry)))) ⌝ }
+{
+    let mut k: usize = 0;
+    while k < out.len() {
+        out[k] = value::lfo(shape, rate, depth, center, srf, t + (k as u64));
+        k += 1;
+    }
+}
+
+// rel_start is `release_start` of the sheet, worked out once.
+pub fn env_mod_block(
+    out: &mut [f32],
+    a: f32,
+    d: f32,
+    s: f32,
+    r: f32,
+    punch: f32,
+    from: f32,
+    to: f32,
+    srf: f32,
+    rel_start: f32,
+    t: u64,
+)
+    requires { ⌜ (t + length (now out) < 2 ^ 64) ⌝ }
+    ensures { λ v. ⌜ (now (out .exit) ≡ given (envModStep a d s r punch from to srf «rel_start» t) tt (length (now (out .entry)))) ⌝ }
+{
+    let mut k: usize = 0;
+    while k < out.len() {
+        out[k] = value::env_mod(a, d, s, r, punch, from, to, srf, rel_start, t + (k as u64));
+        k += 1;
+    }
+}
+
+// One turn of the walk per sample; inc is `rand_increment` of the sheet, worked out once.
+pub fn rand_block(out: &mut [f32], inc: f32, from: f32, to: f32, s: value::Rand) -> value::Rand
+    ensures { λ v. ⌜ (now (out .exit) ≡ given (randStep inc from to) s (length (now (out .entry)))) × (v ≡ after (randStep inc from to) s (length (now (out .entry)))) ⌝ }
+{
+    let mut p = s;
+    let mut k: usize = 0;
+    while k < out.len() {
+        out[k] = value::rand_out(p);
+        p = value::rand_next(inc, from, to, p);
+        k += 1;
+    }
+    p
+}
