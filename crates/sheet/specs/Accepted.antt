@@ -17,7 +17,7 @@ use Rattle.sheet.specs.Record.{countOf, rateOf, recordAt, kind, first, n
 use Rattle.sheet.specs.Kinds.{isNode}
 use Rattle.sheet.specs.Tree.{rootTree, depthOf}
 use Rattle.sheet.specs.Checks.{all, sum, lengthOk, headerOk, recordOk, linkOk, linksOk, onceOk, linksTo, chainOk, depthOk, lowest, checkOf}
-use Rattle.sheet.specs.Links.{at, Links, Linked, LinksIn, hitsAt, onceAt, chainAt, shapeOf, Decoded, Checked}
+use Rattle.sheet.specs.Links.{at, Links, Linked, LinksIn, hitsAt, onceAt, chainAt, shapeOf, Tables, Decoded, Checked}
 use Rattle.sheet.specs.Laws.{both, all-at, sum-some}
 use Rattle.sheet.specs.LinkLaws.{hit-not, once, forest-of, first-below, next-below}
 
@@ -91,6 +91,16 @@ table-is t g n h e z = fun-ext (λ i. elim (decLt i n) [
   | no l ↦ List·getD-eq-default (take n t) 0 {n = i} (omega (arith, length-take-le n t h)) ∙ sym (z i (omega arith))
 ])
 
+module _ {s ks fs ns : List ℕ} (t : Tables s ks fs ns) (l : length s ≡ 24 + 40 * countOf s) {n : ℕ} (m : n ≡ countOf s) where
+  pub kinds-table : n ≤ length ks → at (take n ks) ≡ kind s
+  kinds-table h = table-is ks (kind s) n h (λ i g. t .kind-at i (omega arith)) (λ i g. kind-past s l i (omega arith))
+
+  pub first-table : n ≤ length fs → at (take n fs) ≡ first s
+  first-table h = table-is fs (first s) n h (λ i g. t .first-at i (omega arith)) (λ i g. first-past s l i (omega arith))
+
+  pub next-table : n ≤ length ns → at (take n ns) ≡ next s
+  next-table h = table-is ns (next s) n h (λ i g. t .next-at i (omega arith)) (λ i g. next-past s l i (omega arith))
+
 pub links-same : {f g x y : ℕ → ℕ} {m n : ℕ} → f ≡ g → x ≡ y → m ≡ n → Links g y n → Links f x m
 links-same p q r l = subst₃ Links (sym p) (sym q) (sym r) l
 
@@ -129,13 +139,13 @@ module _ (s ks fs ns : List ℕ) where
 
         module _ {n : ℕ} (m : n ≡ countOf s) (kl : n ≤ length ks) (fl : n ≤ length fs) (nl : n ≤ length ns) where
           kinds-are : at (take n ks) ≡ kind s
-          kinds-are = table-is ks (kind s) n kl (λ i h. c .tables .kind-at i (omega arith)) (λ i h. kind-past s (sized s a .long) i (omega arith))
+          kinds-are = kinds-table (c .tables) (sized s a .long) m kl
 
           first-are : at (take n fs) ≡ first s
-          first-are = table-is fs (first s) n fl (λ i h. c .tables .first-at i (omega arith)) (λ i h. first-past s (sized s a .long) i (omega arith))
+          first-are = first-table (c .tables) (sized s a .long) m fl
 
           next-are : at (take n ns) ≡ next s
-          next-are = table-is ns (next s) n nl (λ i h. c .tables .next-at i (omega arith)) (λ i h. next-past s (sized s a .long) i (omega arith))
+          next-are = next-table (c .tables) (sized s a .long) m nl
 
           count-is : length (take n fs) ≡ countOf s
           count-is = length-take-le n fs fl ∙ m

@@ -1,4 +1,4 @@
--- `sheet::checks::deeper` meets its contract.
+-- `sheet::checks::deeper` meets its contract. The measure is what is left of the records above the start, 0 where the chain ends. The invariant: nodes nest over the room from the start on where they do from j on. Assumes nothing.
 use mathlib.Core.Path.{_≡_, refl, sym, ap, _∙_}
 use mathlib.Core.Logic.{⊎-elim}
 use Prim.Native.Nat.{ℕ, _≤_, _<_}
@@ -10,7 +10,7 @@ use borrow.Author.Needs.{needs}
 use borrow.Author.Tests.{le-ltb}
 use borrow.Fn.Kinds.{In}
 use borrow.Fn.PlainCycle.{Measures, is, falls, and}
-use Rattle.sheet.specs.Links.{at, depthAt}
+use Rattle.sheet.specs.Links.{at, depthIn}
 use Rattle.sheet.specs.LinkLaws.{left, left-falls, first-below, next-below, deep-leaf, deep-within, deep-here, deep-below, depth-nil}
 use Rattle.sheet.proofs.checks.deeper.Reads as deeper
 use Rattle.sheet.proofs.checks.deeper.Kinds as deeper-kinds
@@ -31,7 +31,7 @@ deeper-below t = and 3 deeper-kinds.ps (falls 3 deeper-kinds.ps _<_ μ-deeper t)
 abbrev deeper-Inv-loop : deeper-lts.InvT-loop
 deeper-Inv-loop kinds first next start room j₀ j =
     (j < length first) × (left (length first) j ≤ left (length first) start)
-    × (ltb room (depthAt (at kinds) (at first) (at next) (length first) start) ≡ ltb room (depthAt (at kinds) (at first) (at next) (length first) j))
+    × (ltb room (depthIn kinds first next start) ≡ ltb room (depthIn kinds first next j))
 
 abbrev deeper-μ-loop : deeper-lts.MeasureT-loop
 deeper-μ-loop kinds first next start room j₀ j = left (length first) j
@@ -124,7 +124,7 @@ deeper-returns-3 : (t : ℕ) → deeper-lts.Need-returns-3 (
 deeper-returns-3 t c =
     let l = c .before .loop in
     let s = c .before .before .before .before .before in
-    sym (l .inv .2 ∙ ap (λ (i : ℕ). ltb (s .args .room) (depthAt (at (s .args .kinds .now)) (at (s .args .first .now)) (at (s .args .next .now)) (length (s .args .first .now)) i)) (c .loop-test .left)
+    sym (l .inv .2 ∙ ap (λ (i : ℕ). ltb (s .args .room) (depthIn (s .args .kinds .now) (s .args .first .now) (s .args .next .now) i)) (c .loop-test .left)
     ∙ le-ltb (s .args .room) _ (omega (arith, depth-nil (at (s .args .kinds .now)) (at (s .args .first .now)) (at (s .args .next .now)) (length (s .args .first .now)))))
 
 pub +deeper-spec : {M : Type 1} → statement M

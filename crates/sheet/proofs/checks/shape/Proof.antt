@@ -23,13 +23,23 @@ deeper-requires c κs =
     (linked-in (s .pre .0) (s .pre .1 .0) (sym (c .before .before .before .before .before .before .once .ensures) ∙ c .before .before .before .before .before .if1 .taken), first-below (s .pre .0 .links) (s .pre .1 .1) 0)
 
 returns : tie.Need-returns
-returns c = shape-seven _ _ _ _ (c .before .before .before .before .before .before .before .before .before .before .before .before .pre .0 .links) (sym (c .before .before .before .before .before .before .before .before .once .ensures) ∙ c .before .before .before .before .before .before .before .if1 .taken) (sym (ap₂ _&&_ (c .before .before .before .before .before .before .chains-ok .ensures) (c .before .before .before .before .is-node .ensures)) ∙ c .before .before .before .if2 .taken) (sym (c .before .deeper .ensures) ∙ c .if3 .taken)
+returns c =
+    let links = c .before .before .before .before .before .before .before .before .before .before .before .before .pre .0 .links in
+    let once = sym (c .before .before .before .before .before .before .before .before .once .ensures) ∙ c .before .before .before .before .before .before .before .if1 .taken in
+    let chains = sym (ap₂ _&&_ (c .before .before .before .before .before .before .chains-ok .ensures) (c .before .before .before .before .is-node .ensures)) ∙ c .before .before .before .if2 .taken in
+    shape-seven _ _ _ _ links once chains (sym (c .before .deeper .ensures) ∙ c .if3 .taken)
 
 returns-2 : tie.Need-returns-2
-returns-2 c = shape-none _ _ _ _ (c .before .before .before .before .before .before .before .before .before .before .before .before .pre .0 .links) (sym (c .before .before .before .before .before .before .before .before .once .ensures) ∙ c .before .before .before .before .before .before .before .if1 .taken) (sym (ap₂ _&&_ (c .before .before .before .before .before .before .chains-ok .ensures) (c .before .before .before .before .is-node .ensures)) ∙ c .before .before .before .if2 .taken) (sym (c .before .deeper .ensures) ∙ c .if3 .left)
+returns-2 c =
+    let links = c .before .before .before .before .before .before .before .before .before .before .before .before .pre .0 .links in
+    let once = sym (c .before .before .before .before .before .before .before .before .once .ensures) ∙ c .before .before .before .before .before .before .before .if1 .taken in
+    let chains = sym (ap₂ _&&_ (c .before .before .before .before .before .before .chains-ok .ensures) (c .before .before .before .before .is-node .ensures)) ∙ c .before .before .before .if2 .taken in
+    shape-none _ _ _ _ links once chains (sym (c .before .deeper .ensures) ∙ c .if3 .left)
 
 returns-3 : tie.Need-returns-3
-returns-3 c = shape-six _ _ _ _ (sym (c .before .before .before .before .before .once .ensures) ∙ c .before .before .before .before .if1 .taken) (sym (ap₂ _&&_ (c .before .before .before .chains-ok .ensures) (c .before .is-node .ensures)) ∙ c .if2 .left)
+returns-3 c =
+    let once = sym (c .before .before .before .before .before .once .ensures) ∙ c .before .before .before .before .if1 .taken in
+    shape-six _ _ _ _ once (sym (ap₂ _&&_ (c .before .before .before .chains-ok .ensures) (c .before .is-node .ensures)) ∙ c .if2 .left)
 
 returns-4 : tie.Need-returns-4
 returns-4 c = shape-five _ _ _ _ (sym (c .before .once .ensures) ∙ c .if1 .left)
