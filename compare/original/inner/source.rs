@@ -54,6 +54,9 @@ pub fn impact_built(hardness: f32, velocity: f32, sr: u32) -> (usize, f32) {
 pub fn impact(w: usize, norm: f32, t: usize) -> f32 {
     once(&mut Src::Impact { w, norm }, t, 1.0)
 }
+pub fn env([a, d, s, r, punch, srf, rel_start]: [f32; 7], t: usize) -> f32 {
+    once(&mut Src::Env { a, d, s, r, punch, srf, rel_start }, t, 1.0)
+}
 fn noise(word: u64, kind: NoiseKind) -> (f32, u64, NoiseKind) {
     let mut src = Src::Noise { rng: Rng::new(word), kind };
     let out = once(&mut src, 0, 1.0);

@@ -18,9 +18,9 @@ const RENDER: u8 = 24;
 
 const VALUE: u8 = 33;
 
-const SOURCE: u8 = 48;
+const SOURCE: u8 = 49;
 
-const PROC: u8 = 62;
+const PROC: u8 = 63;
 
 fn answer(place: u8, which: u8, x: [u64; 20]) -> u64 {
     if place < DSP {

@@ -111,6 +111,19 @@ fn dust(which: u8, x: [u64; 20]) -> u64 {
     drawn(which, d.out, d.word, d.y)
 }
 
+fn env(x: [u64; 20]) -> f32 {
+    source::env(
+        single(x[0]),
+        single(x[1]),
+        single(x[2]),
+        single(x[3]),
+        single(x[4]),
+        single(x[5]),
+        single(x[6]),
+        whole(x[7], x[8]),
+    )
+}
+
 fn other(place: u8, which: u8, x: [u64; 20]) -> u64 {
     let a = single(x[0]);
     let b = single(x[1]);
@@ -123,7 +136,8 @@ fn other(place: u8, which: u8, x: [u64; 20]) -> u64 {
         11 => brown(which, x),
         12 => of_single(source::dust_chance(a, b)),
         13 => of_single(source::dust_decay(a, b)),
-        _ => dust(which, x),
+        14 => dust(which, x),
+        _ => of_single(env(x)),
     }
 }
 

@@ -95,6 +95,13 @@ fn noises() -> Vec<Section> {
     ]
 }
 
+fn envelope() -> Vec<Section> {
+    let stage = || float(&[0.01, 0.1, 0.5, 1.0], |r| r.range(0.0, 1.0));
+    let release = float(&[0.0, 0.5, 1.0], |r| r.range(0.0, 4.0));
+    vec![kernel("env", 2_000, vec![stage(), stage(), stage(), stage(), stage(), rate(), release, position()])
+        .float(|x| inner::env(take(x, 0), x[7] as usize))]
+}
+
 pub fn sections() -> Vec<Section> {
-    [oscillators(), impacts(), noises()].into_iter().flatten().collect()
+    [oscillators(), impacts(), noises(), envelope()].into_iter().flatten().collect()
 }
