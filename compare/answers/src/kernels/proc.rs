@@ -49,9 +49,9 @@ fn place_and_length(r: &mut Rng) -> Vec<u64> {
 fn lines() -> Vec<Section> {
     let share = || between(0.0, 1.0);
     vec![
-        kernel("delay", 1_500, vec![share(), sample(), sample()])
+        kernel("delay", 2_500, vec![share(), sample(), sample()])
             .float(|x| inner::delay(single(x[0]), single(x[1]), single(x[2]))),
-        kernel("next_place", 2_000, vec![within(0, 20_000), within(1, 20_001)]).section(place_and_length, |x| {
+        kernel("next_place", 3_500, vec![within(0, 20_000), within(1, 20_001)]).section(place_and_length, |x| {
             let next = (x[0] < x[1]).then(|| inner::next_place(x[0] as usize, x[1] as usize))?;
             Some(vec![Answer::Number(next as u64)])
         }),
@@ -61,7 +61,7 @@ fn lines() -> Vec<Section> {
         }),
         kernel("allpass", 1_500, vec![sample(), sample()])
             .plain(|x| floats(inner::allpass(single(x[0]), single(x[1])))),
-        kernel("reverb_mix", 1_500, vec![share(), sample(), sample()])
+        kernel("reverb_mix", 2_500, vec![share(), sample(), sample()])
             .float(|x| inner::reverb_mix(single(x[0]), single(x[1]), single(x[2]))),
         kernel("mode_step", 1_200, vec![between(-2.0, 2.0), share(), share(), sample(), sample(), sample()])
             .plain(|x| floats(inner::mode(take(x, 0), single(x[5])))),
@@ -85,7 +85,7 @@ fn drives() -> Vec<Section> {
             .section(nearly_equal, |x| {
                 Some(floats(inner::drive_step(drive_shape(x[0]), single(x[1]), take(x, 2), single(x[6]))))
             }),
-        kernel("drive_plain", 1_500, vec![choice(3), amount(), bent()])
+        kernel("drive_plain", 2_500, vec![choice(3), amount(), bent()])
             .float(|x| inner::drive_plain(drive_shape(x[0]), single(x[1]), single(x[2]))),
     ]
 }
@@ -136,14 +136,14 @@ fn modulated() -> Vec<Section> {
     let read = vec![seconds(), seconds(), hertz(), rate(), within(3, 4_802), within(0, 4_801), position()];
     let fraction = || float(&[0.0, 0.5], |r| (r.next() >> 41) as f64 / 8_388_608.0);
     vec![
-        kernel("tremolo", 1_500, vec![hertz(), share(), rate(), position(), sample()])
+        kernel("tremolo", 2_500, vec![hertz(), share(), rate(), position(), sample()])
             .float(|x| inner::tremolo(single(x[0]), single(x[1]), single(x[2]), x[3] as usize, single(x[4]))),
         kernel("chorus_read", 1_500, read).section(reading, |x| {
             let (len, w) = (x[4] as usize, x[5] as usize);
             let (i0, i1, frac) = (w < len).then(|| chorus_read(take(x, 0), len, w, x[6] as usize))?;
             Some(vec![Answer::Number(i0 as u64), Answer::Number(i1 as u64), Answer::Float(frac)])
         }),
-        kernel("chorus", 1_500, vec![share(), fraction(), sample(), sample(), sample()]).section(
+        kernel("chorus", 3_500, vec![share(), fraction(), sample(), sample(), sample()]).section(
             |_| vec![],
             |x| {
                 let [mix, frac, input, a, b] = take(x, 0);
@@ -166,7 +166,7 @@ fn dynamics() -> Section {
 
 pub fn sections() -> Vec<Section> {
     let gain =
-        kernel("gain", 1_500, vec![between(0.0, 2.0), sample()]).float(|x| inner::gain(single(x[0]), single(x[1])));
+        kernel("gain", 2_500, vec![between(0.0, 2.0), sample()]).float(|x| inner::gain(single(x[0]), single(x[1])));
     let mut list = vec![gain];
     list.extend([filters(), lines(), drives(), modulated()].into_iter().flatten());
     list.push(dynamics());

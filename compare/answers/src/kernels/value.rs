@@ -26,9 +26,9 @@ fn modulators() -> Vec<Section> {
     let stage = || between(0.0, 0.5);
     let steps = || within(1, 64);
     vec![
-        kernel("slide", 1_800, vec![choice(2), value(), value(), secs(), rate(), position()])
+        kernel("slide", 2_500, vec![choice(2), value(), value(), secs(), rate(), position()])
             .float(|x| inner::slide(curve(x[0]), take(x, 1), x[5] as usize)),
-        kernel("lfo", 1_800, vec![choice(4), hertz(), value(), value(), rate(), position()])
+        kernel("lfo", 2_500, vec![choice(4), hertz(), value(), value(), rate(), position()])
             .float(|x| inner::lfo(shape(x[0]), take(x, 1), x[5] as usize)),
         kernel("lfo_phase", 2_000, vec![hertz(), rate(), position()])
             .float(|x| lfo_phase(single(x[0]), single(x[1]), x[2] as usize)),
@@ -40,7 +40,7 @@ fn modulators() -> Vec<Section> {
             .float(|x| inner::release_start(x[0] as usize, single(x[1]) as u32, single(x[2]))),
         kernel(
             "env_mod",
-            1_300,
+            2_500,
             vec![stage(), stage(), stage(), stage(), stage(), value(), value(), rate(), secs(), position()],
         )
         .float(|x| inner::env_mod(take(x, 0), x[9] as usize)),
