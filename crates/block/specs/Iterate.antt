@@ -5,9 +5,14 @@ use Prim.Native.Nat.{ℕ, zero, suc, _+_, _<_}
 use native.Mathlib.Nat.{add-zero, add-suc}
 use native.Mathlib.Numerals.{add-one}
 use native.Mathlib.Omega.{arith}
-use lib.ListN.{length, getD, length-append}
+use lib.ListN.{length, getD}
+use lib.Ieee.{Float, nan}
 use Rattle.tree.specs.Comm.{M, blk, later}
 use Rattle.tree.specs.Block.{tab, length-tab, getD-tab}
+
+-- sample k of a buffer
+abbrev pub at : List Float → ℕ → Float
+at xs k = getD xs k nan
 
 module _ {S A : Type 0} where
   -- the state after n samples

@@ -1,7 +1,7 @@
 use mathlib.Core.Path.{_≡_, refl}
 use mathlib.Core.Bool.{true, false}
-use lib.IntN.{pos, negsuc}
-use lib.Ieee.{Float, nan, inf, fin, binary32, binary64, ofBits, round}
+use lib.IntN.{pos}
+use lib.Ieee.{inf, fin, binary32, binary64, ofBits, round}
 use Rattle.cast.specs.Narrow.{narrowOf}
 
 -- 0.1; the half-way case above the largest f32; the smallest f64; half of the smallest f32, a tie to even

@@ -1,26 +1,24 @@
--- Mix adds its inputs to 0 and Mul multiplies 1 by them, in order; an Arp gives the step that sounds.
-use mathlib.Core.Bool.{Bool, cond}
+-- Mix adds its inputs to 0, and Mul multiplies 1 by them, in order.
+use mathlib.Core.Path.{_≡_}
 use mathlib.Core.List.{List}
-use Prim.Native.Nat.{ℕ, zero, suc, _+_, _^_}
-use lib.Dec.{leb, eqb}
+use Prim.Native.Nat.{ℕ, zero, suc, _+_}
+use native.Mathlib.Numerals.{add-one}
 use lib.ListN.{length, getD}
 use lib.Ieee.{Float, nan}
 use Rattle.float.specs.Single.{_⊕_, _⊗_, zero as zeroF, one}
-use Rattle.value.specs.Modulators.{arpIndex}
 
--- of the first n inputs
-unfoldable pub mixOf : List Float → ℕ → Float
-mixOf xs zero = zeroF
-mixOf xs (suc n) = mixOf xs n ⊕ getD xs n nan
+-- the first n inputs, one after another
+unfoldable pub folded : (Float → Float → Float) → Float → List Float → ℕ → Float
+folded op z xs zero = z
+folded op z xs (suc n) = op (folded op z xs n) (getD xs n nan)
 
-unfoldable pub mulOf : List Float → ℕ → Float
-mulOf xs zero = one
-mulOf xs (suc n) = mulOf xs n ⊗ getD xs n nan
+abbrev pub mixOf : List Float → Float
+mixOf xs = folded _⊕_ zeroF xs (length xs)
 
--- without steps, 0
-unfoldable pub arpOf : List Float → Float → Float → ℕ → Float
-arpOf steps rate srf t = cond (eqb (length steps) 0) zeroF (getD steps (arpIndex rate srf t (length steps)) nan)
+abbrev pub mulOf : List Float → Float
+mulOf xs = folded _⊗_ one xs (length xs)
 
--- check 10 does not apply
-unfoldable pub leftFor : ℕ → ℕ → Bool
-leftFor position length = leb (position + length) (2 ^ 62)
+-- one input more
+pub folded-more : (op : Float → Float → Float) (z : Float) (xs : List Float) (k : ℕ) → folded op z xs (k + 1) ≡ op (folded op z xs k) (getD xs k nan)
+unfolding folded
+folded-more op z xs k = rw add-one

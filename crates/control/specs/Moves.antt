@@ -1,5 +1,7 @@
--- The player's controls, and what document 01 says of a move of pitch or bend.
-use mathlib.Core.Bool.{cond}
+-- The player's controls, what document 01 says of a move of pitch or bend, and check 10.
+use mathlib.Core.Bool.{Bool, cond}
+use Prim.Native.Nat.{ℕ, _+_, _^_}
+use lib.Dec.{leb}
 use lib.Ieee.{Float, isNan, binary32, ofBits}
 use Rattle.float.specs.Order.{maxOf, clampOf}
 use Rattle.float.specs.Single.{_⊕_, _⊖_, _⊗_, zero, one}
@@ -21,3 +23,7 @@ pitchMoved c scale coefficient = record { position = c .position; pitch = c .pit
 
 unfoldable pub bendMoved : Controls → Float → Controls
 bendMoved c bend = record { position = c .position; pitch = c .pitch; target = c .target; glide = c .glide; bend = bend }
+
+-- whether a fill of this length has positions left: check 10 does not apply
+unfoldable pub leftFor : ℕ → ℕ → Bool
+leftFor position length = leb (position + length) (2 ^ 62)

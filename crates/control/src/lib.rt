@@ -1,6 +1,6 @@
 // The player's controls and the moves of pitch and bend, which never refuse.
 ghost use mathlib.Core.Path.{_≡_};
-ghost use Rattle.control.specs.Moves.{fresh, glided, glideOf, pitchMoved, bendMoved};
+ghost use Rattle.control.specs.Moves.{fresh, glided, glideOf, pitchMoved, bendMoved, leftFor};
 
 // How long the voice has sounded, in samples; the pitch's multiplier, where it glides to and by which part per sample; the bend.
 pub struct Controls {
@@ -64,4 +64,14 @@ pub fn set_bend(c: Controls, bend: f32) -> Controls
         glide: c.glide,
         bend,
     }
+}
+
+// Check 10 does not apply: position plus length is at most 2^62. The sum may not fit a word, the difference does.
+pub fn positions_left(position: u64, length: u64) -> bool
+    ensures { λ r. ⌜ r ≡ leftFor position length ⌝ }
+{
+    if length > 4611686018427387904 {
+        return false;
+    }
+    position <= 4611686018427387904 - length
 }

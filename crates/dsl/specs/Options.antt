@@ -1,6 +1,6 @@
 -- The option numbers of the sheet, in the orders of the Rust's enums. A number past the last is the last: check 3 refuses it in a sheet.
 use Prim.Native.Nat.{ℕ, _%_}
-use mathlib.Core.Bool.{Bool, true, false, cond}
+use mathlib.Core.Bool.{cond}
 use lib.Dec.{eqb}
 use Rattle.dsl.specs.declared.Shape.{Shape}
 use Rattle.dsl.specs.declared.Shape.the-variants as shape

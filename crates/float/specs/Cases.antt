@@ -1,10 +1,8 @@
 -- Worked cases of the definitions, by computation: the numbers on the right are f32 and f64 patterns as rustc's own operations give them.
 use mathlib.Core.Path.{_≡_, refl}
-use mathlib.Core.Bool.{true, false}
-use lib.IntN.{pos, negsuc}
-use lib.Ieee.{Float, nan, inf, fin, binary32, binary64, ofBits, ofInt, neg, sub, add, rem, lt, isNan}
+use lib.Ieee.{binary32, binary64, ofBits, ofInt, neg, sub, add, rem, lt, isNan}
 use Rattle.float.specs.Whole.{wholeOf, floorOf, truncOf, roundOf, fractOf}
-use Rattle.float.specs.Order.{maxOf, minOf, negative, clampOf, absOf}
+use Rattle.float.specs.Order.{maxOf, minOf, negative, absOf}
 use Rattle.float.specs.Euclid.{remEuclidOf}
 
 -- floor of -0.5, 2.75, -2.75, -0.0, 8388607.5

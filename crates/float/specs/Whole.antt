@@ -1,8 +1,8 @@
 -- Whole numbers near a float. A value `fin s m e` is m * 2 ^ e, negative where s is true: it is whole where e is not negative, and `fin s m (negsuc k)` is the fraction m / 2 ^ (k + 1).
 -- `ofInt f (pos n)` is the float of the format f nearest to n: exactly n wherever it stands here.
 use Prim.Native.Nat.{ℕ, suc, _+_, _-_, _*_, _/_, _^_}
-use mathlib.Core.Bool.{Bool, true, false}
-use lib.IntN.{ℤ, pos, negsuc}
+use mathlib.Core.Bool.{true, false}
+use lib.IntN.{pos, negsuc}
 use lib.Ieee.{Float, nan, inf, fin, Format, ofInt, neg, sub}
 
 -- m / d as a whole number: its whole part, the next one up unless it is whole, and the whole part of m / d + 1 / 2

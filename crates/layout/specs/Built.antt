@@ -1,7 +1,7 @@
 -- Which records of an accepted sheet are built. Document 01: a Chain builds only from its last non-processor stage on; a processor where a source is wanted is silence, and it and its chain are not built;
 -- values, modes and steps are built with the record that they serve.
-use mathlib.Core.Bool.{Bool, true, false, not, cond, _&&_, _||_}
-use mathlib.Core.List.{List, [], _∷_, map}
+use mathlib.Core.Bool.{Bool, true, false, cond, _||_}
+use mathlib.Core.List.{List}
 use Prim.Native.Nat.{ℕ, zero, suc}
 use lib.Dec.{eqb}
 use Rattle.tree.specs.Tree.{Tree, nil, node}

@@ -1,7 +1,7 @@
 -- Worked sheets, by computation: document 01's, and one in which a stage, an input and the chain of each are left out.
 use mathlib.Core.Path.{_≡_, refl}
-use mathlib.Core.List.{List, [], _∷_, _++_}
-use Prim.Native.Nat.{ℕ, zero, suc}
+use mathlib.Core.List.{List, _∷_, _++_}
+use Prim.Native.Nat.{ℕ}
 use lib.ListN.{replicate}
 use Rattle.sheet.specs.Kinds.{lookup}
 use Rattle.sheet.specs.Tree.{spine, depth}

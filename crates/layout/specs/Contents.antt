@@ -1,22 +1,22 @@
 -- What check 6 says of the chains of an accepted sheet, link by link, and of those that are built.
 use mathlib.Core.Path.{_≡_, refl, sym, ap, ap₂, _∙_}
-use mathlib.Core.Bool.{Bool, true, false, cond, _&&_, _||_}
+use mathlib.Core.Bool.{Bool, true, false, cond, _&&_}
 use mathlib.Core.List.{List, [], _∷_, map}
-use mathlib.Core.Logic.{_≢_, _⊎_, inl, inr}
-use Prim.Native.Nat.{ℕ, zero, suc, _+_, _-_, _≤_, _<_}
+use mathlib.Core.Logic.{_≢_}
+use Prim.Native.Nat.{ℕ, zero, suc, _+_, _≤_, _<_}
 use native.Mathlib.Omega.{arith}
 use native.Mathlib.Decide.{ℕ-discrete}
 use borrow.Author.Tests.{eqb-true, ltb-true, leb-true, ne-eqb}
 use lib.Dec.{eqb, ltb, leb}
 use lib.ListN.{length}
-use Rattle.tree.specs.Tree.{Tree, nil, node}
-use Rattle.tree.specs.Forest.{Forest, whole, whole-nil, whole-node}
-use Rattle.sheet.specs.Bytes.{byteAt, u16At}
+use Rattle.tree.specs.Tree.{Tree, node}
+use Rattle.tree.specs.Forest.{whole, whole-nil, whole-node}
+use Rattle.sheet.specs.Bytes.{u16At}
 use Rattle.sheet.specs.Record.{countOf, optionOf, recordAt, kind, first, next}
-use Rattle.sheet.specs.Kinds.{Chain, empty, values, nodes, modes, steps, rowOf, lookup, isNode, isValue, isProcessor, isFold}
+use Rattle.sheet.specs.Kinds.{Chain, empty, values, nodes, modes, steps, rowOf, lookup, isNode, isValue, isFold}
 use Rattle.sheet.specs.Tree.{records, spine}
 use Rattle.sheet.specs.Checks.{all, every, holds, chainOk, recordOk}
-use Rattle.layout.specs.Built.{owner, Role, out, silent, built, role, isBuilt, isPlayed, begin, after}
+use Rattle.layout.specs.Built.{owner, built, role, isPlayed, begin, after}
 use Rattle.layout.specs.Good.{Good, false-true, and-left, and-right}
 use Rattle.sheet.specs.Laws.{all-at}
 use Rattle.layout.specs.Owners.{owner-first, owner-next, owner-below, records-none, records-some, reached}

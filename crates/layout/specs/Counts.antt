@@ -1,17 +1,16 @@
 -- The needs by numbers alone, as the code works them out: a table for the kinds whose need is fixed, and the six whose cells depend on more.
 use mathlib.Core.Path.{_≡_, refl, sym, ap, _∙_}
-use mathlib.Core.Bool.{Bool, true, false, cond, _&&_}
+use mathlib.Core.Bool.{Bool, true, cond, _&&_}
 use mathlib.Core.List.{List, [], _∷_}
 use mathlib.Core.Logic.{_≢_}
-use Prim.Native.Nat.{ℕ, zero, suc, _+_, _-_, _*_, _≤_, _<_, min, max}
+use Prim.Native.Nat.{ℕ, zero, suc, _+_, _*_, _≤_, _<_}
 use native.Mathlib.Omega.{arith}
 use native.Mathlib.Decide.{decLt, ℕ-discrete}
 use borrow.Author.Tests.{eqb-true, leb-true, ne-eqb}
 use lib.Dec.{eqb, leb}
 use lib.ListN.{length, getD, set, length-set, List·getD-eq-default}
-use Rattle.tree.specs.Tree.{Tree, nil, node}
 use Rattle.tree.specs.Flat.{Layout, Rows}
-use Rattle.sheet.specs.Record.{countOf, rateOf, optionOf, bitsOf, numberOf, recordAt, kind, first, next}
+use Rattle.sheet.specs.Record.{countOf, rateOf, optionOf, numberOf, recordAt, kind, first, next}
 use Rattle.sheet.specs.Tree.{records, spine}
 use Rattle.sheet.specs.Checks.{all, sum}
 use Rattle.sheet.specs.Laws.{all-at, sum-suc}

@@ -4,7 +4,7 @@ use mathlib.Core.List.{List, [], _∷_}
 use Prim.Native.Nat.{ℕ, zero, suc, _+_, _*_, min, max}
 use lib.ListN.{length}
 use lib.Dec.{eqb}
-use Rattle.sheet.specs.Record.{countOf, rateOf, optionOf, bitsOf, numberOf, recordAt, kind, first}
+use Rattle.sheet.specs.Record.{rateOf, optionOf, bitsOf, numberOf, recordAt, kind, first}
 use Rattle.sheet.specs.Tree.{records, spine}
 use Rattle.sheet.specs.Checks.{sum}
 use Rattle.lines.specs.Lines.{delayLine, chorusLine, combLine, allpassLine}

@@ -1,19 +1,18 @@
 -- The links of an accepted sheet: the one that leads to a record, and the record in whose chain it stands.
 use mathlib.Core.Path.{_≡_, refl, sym, ap, _∙_, subst}
-use mathlib.Core.Bool.{Bool, true, false, cond, _&&_, _||_}
-use mathlib.Core.List.{List, [], _∷_}
+use mathlib.Core.Bool.{Bool, true, false, cond, _||_}
+use mathlib.Core.List.{List}
 use mathlib.Core.Logic.{_≢_, _⊎_, inl, inr}
-use Prim.Native.Nat.{ℕ, zero, suc, _+_, _-_, _*_, _≤_, _<_}
+use Prim.Native.Nat.{ℕ, zero, suc, _+_, _-_, _≤_, _<_}
 use native.Mathlib.Omega.{arith}
-use native.Mathlib.Decide.{ℕ-discrete, decLt}
+use native.Mathlib.Decide.{ℕ-discrete}
 use borrow.Author.Tests.{eqb-true, eqb-false, eq-eqb, ne-eqb}
-use lib.ListN.{length}
 use lib.Dec.{eqb, eqb·zero-suc}
-use Rattle.tree.specs.Tree.{Tree, nil, node}
-use Rattle.tree.specs.Forest.{Forest, whole, whole-nil, whole-node}
-use Rattle.sheet.specs.Record.{countOf, kind, first, next}
-use Rattle.sheet.specs.Tree.{records, spine}
-use Rattle.sheet.specs.Checks.{sum, linksTo}
+use Rattle.tree.specs.Tree.{nil, node}
+use Rattle.tree.specs.Forest.{whole-nil, whole-node}
+use Rattle.sheet.specs.Record.{countOf, first, next}
+use Rattle.sheet.specs.Tree.{records}
+use Rattle.sheet.specs.Checks.{linksTo}
 use Rattle.sheet.specs.Links.{hitsAt}
 use Rattle.sheet.specs.Laws.{sum-none}
 use Rattle.sheet.specs.LinkLaws.{hit-not}

@@ -2,17 +2,17 @@
 use mathlib.Core.Path.{_≡_, refl, sym, ap, _∙_, subst}
 use mathlib.Core.Bool.{Bool, true, false, cond}
 use mathlib.Core.List.{List}
-use mathlib.Core.Logic.{_≢_, _⊎_, inl, inr}
+use mathlib.Core.Logic.{_≢_, inl, inr}
 use Prim.Native.Nat.{ℕ, zero, suc, _+_, _-_, _≤_, _<_}
 use native.Mathlib.Omega.{arith}
 use native.Mathlib.Decide.{ℕ-discrete}
-use Rattle.tree.specs.Tree.{Tree, nil, node, In, here, kid, rest, Apart}
-use Rattle.tree.specs.Forest.{Forest, build, Link, down, along, whole, whole-node, root, root-apart}
+use Rattle.tree.specs.Tree.{Tree, In, here, kid, rest, Apart}
+use Rattle.tree.specs.Forest.{Forest, build, Link, down, along, whole, root, root-apart}
 use Rattle.sheet.specs.Record.{countOf, kind, first, next}
 use Rattle.sheet.specs.Kinds.{isProcessor}
-use Rattle.layout.specs.Built.{linker, owner, trailing, Role, out, silent, built, role, isBuilt, isPlayed, begin, after}
+use Rattle.layout.specs.Built.{linker, owner, trailing, silent, built, role, isPlayed, begin, after}
 use Rattle.layout.specs.Good.{Good, false-true}
-use Rattle.layout.specs.Owners.{linker-in, linker-links, linker-below, owner-first, owner-next, owner-below, next-inside, first-inside}
+use Rattle.layout.specs.Owners.{linker-in, linker-links, linker-below, owner-first, owner-next, owner-below, next-inside}
 use Rattle.layout.specs.Roles.{stageFrom, begin-built, begin-chain, begin-other, after-played, after-next, stage-none, stage-here, staged, stage-past, played-owner, chain-last, chain-built, other-played, next-played, role-root}
 
 either : (b : Bool) → isPlayed (cond b silent built) ≡ true

@@ -1,21 +1,20 @@
 -- What is built of an accepted sheet: roles by owners, the end of a Chain that is built, and where it begins.
-use mathlib.Core.Path.{_≡_, refl, sym, ap, _∙_, subst}
-use mathlib.Core.Bool.{Bool, true, false, cond, _&&_, _||_}
-use mathlib.Core.List.{List, [], _∷_}
+use mathlib.Core.Path.{_≡_, refl, sym, ap, _∙_}
+use mathlib.Core.Bool.{Bool, true, false, cond, _&&_}
+use mathlib.Core.List.{List}
 use mathlib.Core.Logic.{_≢_, _⊎_, inl, inr}
-use Prim.Native.Nat.{ℕ, zero, suc, _+_, _-_, _*_, _≤_, _<_}
+use Prim.Native.Nat.{ℕ, zero, suc, _≤_, _<_}
 use native.Mathlib.Omega.{arith}
 use native.Mathlib.Decide.{ℕ-discrete}
-use borrow.Author.Tests.{eqb-true, eqb-false, eq-eqb, ne-eqb}
+use borrow.Author.Tests.{eq-eqb, ne-eqb}
 use lib.Dec.{eqb}
-use Rattle.tree.specs.Tree.{Tree, nil, node}
 use Rattle.sheet.specs.Record.{countOf, kind, first, next}
 use Rattle.sheet.specs.Kinds.{isProcessor, isFold}
 use Rattle.sheet.specs.Tree.{records, spine}
 use Rattle.sheet.specs.Checks.{every}
 use Rattle.layout.specs.Built.{owner, processors, trailing, Role, out, silent, built, roleIn, rootRole, roleBy, role, isBuilt, isPlayed, stage, begin, after}
 use Rattle.layout.specs.Good.{Good, false-true}
-use Rattle.layout.specs.Owners.{owner-first, owner-next, owner-below, next-inside, first-inside, records-none, records-some, along, reached}
+use Rattle.layout.specs.Owners.{owner-first, owner-next, owner-below, next-inside, records-none, records-some, along, reached}
 
 -- the stage from which the chain that begins at j is built
 abbrev pub stageFrom : List ℕ → ℕ → ℕ

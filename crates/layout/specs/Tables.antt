@@ -1,22 +1,22 @@
 -- Tables of what the definitions say of each record, and a turn of each loop that writes one.
-use mathlib.Core.Path.{_≡_, refl, sym, ap, _∙_, subst}
-use mathlib.Core.Bool.{Bool, true, false, cond, _&&_, _||_}
+use mathlib.Core.Path.{_≡_, refl, sym, ap, _∙_}
+use mathlib.Core.Bool.{Bool, true, false, cond, _&&_}
 use mathlib.Core.List.{List}
-use mathlib.Core.Logic.{_≢_, _⊎_, inl, inr}
+use mathlib.Core.Logic.{_≢_, inl, inr}
 use Prim.Native.Nat.{ℕ, zero, suc, _+_, _-_, _*_, _≤_, _<_}
 use native.Mathlib.Omega.{arith}
 use native.Mathlib.Decide.{ℕ-discrete}
-use borrow.Author.Tests.{eqb-true, eq-eqb, ne-eqb}
+use borrow.Author.Tests.{eq-eqb, ne-eqb}
 use lib.Dec.{eqb}
 use lib.ListN.{length, getD, set, length-set}
 use lib.Seq.{getD-set-same, getD-set-other}
 use Rattle.sheet.specs.Record.{countOf, rateOf, kind, first, next}
-use Rattle.sheet.specs.Kinds.{isProcessor, isFold}
+use Rattle.sheet.specs.Kinds.{isProcessor}
 use Rattle.sheet.specs.Checks.{checkOf}
 use Rattle.sheet.specs.Links.{Tables}
-use Rattle.layout.specs.Built.{linker, owner, trailing, Role, out, silent, built, roleIn, rootRole, role, isBuilt, isPlayed, begin, after}
+use Rattle.layout.specs.Built.{linker, owner, trailing, Role, out, silent, built, roleIn, role, isBuilt, isPlayed, begin, after}
 use Rattle.layout.specs.Good.{Good, good}
-use Rattle.layout.specs.Owners.{linker-first, linker-next, linker-links, linker-below, owner-first, owner-next, owner-root, owner-below}
+use Rattle.layout.specs.Owners.{linker-links, linker-below, owner-first, owner-next, owner-root, owner-below}
 use Rattle.layout.specs.Roles.{stageFrom, role-root, role-in, trailing-none, trailing-some, stage-none, stage-some}
 
 -- t holds f of every index below n

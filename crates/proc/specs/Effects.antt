@@ -2,14 +2,13 @@
 use mathlib.Core.Bool.{cond}
 use Prim.Native.Nat.{ℕ, _+_, _%_}
 use lib.IntN.{pos}
-use lib.Ieee.{Float, nan, binary32, neg, lt, ne, ofBits, ofInt, toUnsigned}
+use lib.Ieee.{Float, binary32, neg, lt, ne, ofBits, ofInt, toUnsigned}
 use Rattle.float.specs.Whole.{floorOf}
 use Rattle.float.specs.Order.{absOf, maxOf}
 use Rattle.float.specs.Euclid.{remEuclidOf}
 use Rattle.float.specs.Single.{_⊕_, _⊖_, _⊗_, _⊘_, zero, half, one, tau}
 use Rattle.dsp.specs.Math.{sine, power, logarithm10}
 use Rattle.render.specs.declared.FilterKind.{FilterKind}
-use Rattle.render.specs.declared.Coefficients.{Coefficients}
 use Rattle.render.specs.Biquad.{biquadOf}
 use Rattle.render.specs.Drive.{driveOf, antiderivativeOf}
 use Rattle.dsl.specs.declared.DriveShape.{DriveShape}
@@ -52,8 +51,8 @@ filterOf kind q sr cutoff s x = biquadStep (tuned kind q sr (cutoff ⊗ s .scale
 abbrev pub delayOf : Float → Float → Float → Float
 delayOf feedback x delayed = x ⊕ feedback ⊗ delayed
 
-abbrev pub onward : ℕ → ℕ → ℕ
-onward w len = (w + 1) % len
+abbrev pub nextPlace : ℕ → ℕ → ℕ
+nextPlace w len = (w + 1) % len
 
 -- Freeverb's damped comb: y is what the line held, the store its smoothed value; and its allpass, of gain one half
 unfoldable pub combOf : Float → Float → Float → Float → CombOut
@@ -67,7 +66,7 @@ allpassOf wet buffered = record { out = neg wet ⊕ buffered; line = wet ⊕ buf
 
 -- what the six combs and four allpasses give, mixed with the input: a sixth of the combs' sum
 unfoldable pub reverbMix : Float → Float → Float → Float
-reverbMix mix x wet = x ⊗ (one ⊖ mix) ⊕ wet ⊗ ofBits binary32 0x3e2a_aaab ⊗ mix
+reverbMix mix x wet = blend mix x (wet ⊗ ofBits binary32 0x3e2a_aaab)
 
 -- ---- a mode of Modal
 unfoldable pub modeOf : Mode → Float → ModeOut
@@ -96,16 +95,16 @@ unfoldable pub drivePlain : DriveShape → Float → Float → Float
 drivePlain shape amount x = driveOf shape (driven amount x)
 
 -- ---- Tremolo and Chorus: a sine of the position
-abbrev pub wobble : Float → Float → ℕ → Float
-wobble rate srf t = sine (tau ⊗ rate ⊗ ofInt binary32 (pos t) ⊘ srf)
+abbrev pub lfoAt : Float → Float → ℕ → Float
+lfoAt rate srf t = sine (tau ⊗ rate ⊗ ofInt binary32 (pos t) ⊘ srf)
 
 unfoldable pub tremoloOf : Float → Float → Float → ℕ → Float → Float
-tremoloOf rate depth srf t x = x ⊗ (one ⊖ depth ⊗ (half ⊕ half ⊗ wobble rate srf t))
+tremoloOf rate depth srf t x = x ⊗ (one ⊖ depth ⊗ (half ⊕ half ⊗ lfoAt rate srf t))
 
 -- where Chorus reads: between two places of a line of len, the delay behind place w. A remainder that rounds up to len reads at 0.
 unfoldable pub chorusRead : Float → Float → Float → Float → ℕ → ℕ → ℕ → ChorusRead
 chorusRead base swing rate srf len w t =
-    let delay = base ⊕ swing ⊗ wobble rate srf t in
+    let delay = base ⊕ swing ⊗ lfoAt rate srf t in
     let read = remEuclidOf binary32 (ofInt binary32 (pos w) ⊖ delay) (ofInt binary32 (pos len)) in
     let i0 = toUnsigned 64 (floorOf binary32 read) % len in
     record { i0 = i0; i1 = (i0 + 1) % len; frac = read ⊖ floorOf binary32 read }

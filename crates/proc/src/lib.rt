@@ -1,7 +1,7 @@
 // The processors for one sample: values in, a struct of the sample and the new state out.
 ghost use mathlib.Core.Path.{_≡_};
 ghost use Prim.Native.Nat.{_<_};
-ghost use Rattle.proc.specs.Effects.{gainOf, tuned, biquadStep, filterOf, delayOf, onward, combOf, allpassOf, reverbMix, modeOf, driven, driveStep, drivePlain, wobble, tremoloOf, chorusRead, chorusOf, compressOf};
+ghost use Rattle.proc.specs.Effects.{gainOf, tuned, biquadStep, filterOf, delayOf, nextPlace, combOf, allpassOf, reverbMix, modeOf, driven, driveStep, drivePlain, lfoAt, tremoloOf, chorusRead, chorusOf, compressOf};
 
 // A filter's eleven cells, in the sheet's order.
 pub struct Filter {
@@ -145,7 +145,7 @@ pub fn delay(feedback: f32, x: f32, delayed: f32) -> f32
 // The next place of a line, without a division.
 pub fn next_place(w: u64, len: u64) -> u64
     requires { ⌜ w < len ⌝ }
-    ensures { λ r. ⌜ (r ≡ onward w len) × (r < len) ⌝ }
+    ensures { λ r. ⌜ (r ≡ nextPlace w len) × (r < len) ⌝ }
 {
     let next = w + 1;
     if next < len { next } else { 0 }
@@ -233,8 +233,8 @@ pub fn drive_plain(shape: dsl::DriveShape, amount: f32, x: f32) -> f32
     render::drive_curve(amplified(amount, x), shape)
 }
 
-fn wobble_at(rate: f32, srf: f32, t: u64) -> f32
-    ensures { λ r. ⌜ r ≡ wobble rate srf t ⌝ }
+fn lfo_at(rate: f32, srf: f32, t: u64) -> f32
+    ensures { λ r. ⌜ r ≡ lfoAt rate srf t ⌝ }
 {
     dsp::sin(6.2831855 * rate * cast::u64_to_f32(t) / srf)
 }
@@ -242,7 +242,7 @@ fn wobble_at(rate: f32, srf: f32, t: u64) -> f32
 pub fn tremolo(rate: f32, depth: f32, srf: f32, t: u64, x: f32) -> f32
     ensures { λ r. ⌜ r ≡ tremoloOf rate depth srf t x ⌝ }
 {
-    x * (1.0 - depth * (0.5 + 0.5 * wobble_at(rate, srf, t)))
+    x * (1.0 - depth * (0.5 + 0.5 * lfo_at(rate, srf, t)))
 }
 
 // A remainder that rounds up to the line's length is taken at 0 by the last remainder.
@@ -258,7 +258,7 @@ pub fn chorus_read(
     requires { ⌜ 0 < len ⌝ }
     ensures { λ r. ⌜ (r ≡ chorusRead base swing rate srf len w t) × (r .i0 < len) × (r .i1 < len) ⌝ }
 {
-    let delay = base + swing * wobble_at(rate, srf, t);
+    let delay = base + swing * lfo_at(rate, srf, t);
     let read = float::rem_euclid(cast::u64_to_f32(w) - delay, cast::u64_to_f32(len));
     let whole = float::floor(read);
     let i0 = cast::f32_to_u64(whole) % len;

@@ -1,17 +1,13 @@
 -- The one-sample kernels as steps of a block: xs are the samples that come in.
 use mathlib.Core.List.{List}
 use Prim.Native.Nat.{ℕ, _+_}
-use lib.ListN.{getD}
-use lib.Ieee.{Float, nan}
+use lib.Ieee.{Float}
+use Rattle.block.specs.Iterate.{at}
 use Rattle.dsl.specs.declared.DriveShape.{DriveShape}
 use Rattle.render.specs.declared.FilterKind.{FilterKind}
 use Rattle.proc.specs.declared.Filter.{Filter}
 use Rattle.proc.specs.declared.Drive.{Drive}
 use Rattle.proc.specs.Effects.{gainOf, filterOf, driveStep, drivePlain, tremoloOf, compressOf}
-
--- sample k of a buffer
-abbrev pub at : List Float → ℕ → Float
-at xs k = getD xs k nan
 
 unfoldable pub gainStep : List Float → List Float → ℕ → Unit {0} → Float × Unit {0}
 gainStep xs amount k s = (gainOf (at amount k) (at xs k), s)

@@ -1,10 +1,10 @@
 -- Waveshapers: the curve, and its antiderivative for antiderivative antialiasing (Parker, Zavalishin and Le Bivic).
-use mathlib.Core.Bool.{Bool, true, false, cond, not}
+use mathlib.Core.Bool.{Bool, true, false, cond}
 use Prim.Native.Nat.{ℕ, zero, suc}
 use lib.Ieee.{Float, binary32, neg, lt, le, ofBits}
 use Rattle.float.specs.Order.{absOf, isFinite, clampOf}
 use Rattle.float.specs.Euclid.{remEuclidOf}
-use Rattle.float.specs.Single.{_⊕_, _⊖_, _⊗_, _⊘_, half, one, two, three, four}
+use Rattle.float.specs.Single.{_⊕_, _⊖_, _⊗_, half, one, two, three, four}
 use Rattle.dsp.specs.Math.{exponential, tangent, logarithm1p}
 use Rattle.dsl.specs.declared.DriveShape.{DriveShape}
 use Rattle.dsl.specs.declared.DriveShape.the-variants.{Tanh, Hard, Fold}

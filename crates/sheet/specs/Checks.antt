@@ -1,5 +1,5 @@
 -- Checks 1 to 7 of document 01, each as what must hold; the answer is the lowest number whose check fails, and 0 where none does.
-use mathlib.Core.Bool.{Bool, true, false, cond, _&&_, _||_}
+use mathlib.Core.Bool.{Bool, true, cond, _&&_, _||_}
 use mathlib.Core.List.{List, [], _∷_, map}
 use Prim.Native.Nat.{ℕ, zero, suc, _+_, _-_, _*_}
 use lib.ListN.{length}

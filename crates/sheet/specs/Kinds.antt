@@ -1,7 +1,7 @@
 -- The kinds of records, as document 01 lists them: how many options a kind has (0 up to one less), how many of its eight numbers it uses, and what its chain holds.
-use mathlib.Core.Bool.{Bool, true, false, cond, _&&_, _||_}
+use mathlib.Core.Bool.{Bool, cond, _&&_, _||_}
 use mathlib.Core.List.{List, [], _∷_}
-use Prim.Native.Nat.{ℕ, zero, suc}
+use Prim.Native.Nat.{ℕ}
 use lib.Dec.{leb, eqb}
 
 pub data Chain : Type 0 where

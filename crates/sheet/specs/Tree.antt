@@ -1,11 +1,11 @@
 -- The records as a tree: `records s i` is record i with its chain beneath and what stands after it, 0 none. A chain is its spine.
-use mathlib.Core.Bool.{Bool, true, false, cond, _&&_}
+use mathlib.Core.Bool.{Bool, cond}
 use mathlib.Core.List.{List, [], _∷_}
-use Prim.Native.Nat.{ℕ, zero, suc, max}
+use Prim.Native.Nat.{ℕ, suc, max}
 use Rattle.tree.specs.Tree.{Tree, nil, node}
 use Rattle.tree.specs.Forest.{whole, root}
 use Rattle.sheet.specs.Record.{countOf, kind, first, next}
-use Rattle.sheet.specs.Kinds.{isNode, isProcessor}
+use Rattle.sheet.specs.Kinds.{isNode}
 
 abbrev pub records : List ℕ → ℕ → Tree
 records s i = whole (first s) (next s) (countOf s) i

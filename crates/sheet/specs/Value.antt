@@ -3,21 +3,12 @@ use mathlib.Core.Bool.{cond}
 use mathlib.Core.List.{List}
 use Prim.Native.Nat.{ℕ}
 use lib.Dec.{eqb}
+use Rattle.dsl.specs.Options.{curveOf, shapeOf}
 use Rattle.sheet.specs.Record.{kindOf, optionOf, firstOf, numberOf}
-use Rattle.sheet.specs.declared.Curve.{Curve}
-use Rattle.sheet.specs.declared.Curve.the-variants.{Lin, Exp}
-use Rattle.sheet.specs.declared.Shape.{Shape}
-use Rattle.sheet.specs.declared.Shape.the-variants.{Sine, Square, Triangle, Saw}
 use Rattle.sheet.specs.declared.Value.{Value}
 use Rattle.sheet.specs.declared.Value.the-variants.{Const, Slide, Lfo, Arp, EnvMod, Rand}
 
-unfoldable pub curveOf : ℕ → Curve
-curveOf o = cond (eqb o 0) Lin Exp
-
-unfoldable pub shapeOf : ℕ → Shape
-shapeOf o = cond (eqb o 0) Sine (cond (eqb o 1) Square (cond (eqb o 2) Triangle Saw))
-
--- a kind that is no value's is read as a Const, and nobody asks
+-- a kind that is no value's is read as a Const
 unfoldable pub valueOf : List ℕ → Value
 valueOf r =
     let k = kindOf r in

@@ -8,7 +8,7 @@ ghost use Prim.Native.Nat.{_+_, _*_, _≤_, _<_};
 ghost use lib.ListN.{length};
 ghost use Rattle.sheet.specs.Bytes.{u16At, u32At, u64At};
 ghost use Rattle.sheet.specs.Record.{countOf, rateOf, lengthOf, pathOf, kindOf, optionOf, firstOf, nextOf, bitsOf, numberOf, seedOf};
-ghost use Rattle.sheet.specs.Value.{curveOf, shapeOf, valueOf};
+ghost use Rattle.sheet.specs.Value.{valueOf};
 ghost use Rattle.sheet.specs.Checks.{checkOf};
 ghost use Rattle.sheet.specs.Links.{Checked};
 
@@ -128,18 +128,6 @@ pub fn seed(r: &[u8]) -> u64
 
 // ---- a value record, read into one of six cases
 
-pub enum Curve {
-    Lin,
-    Exp,
-}
-
-pub enum Shape {
-    Sine,
-    Square,
-    Triangle,
-    Saw,
-}
-
 // Arp carries the record of its first step.
 pub enum Value {
     Const(f32),
@@ -147,10 +135,10 @@ pub enum Value {
         from: f32,
         to: f32,
         secs: f32,
-        curve: Curve,
+        curve: dsl::Curve,
     },
     Lfo {
-        shape: Shape,
+        shape: dsl::Shape,
         rate: f32,
         depth: f32,
         center: f32,
@@ -175,23 +163,6 @@ pub enum Value {
     },
 }
 
-fn read_curve(o: u8) -> Curve
-    ensures { λ r. ⌜ r ≡ curveOf o ⌝ }
-{
-    if o == 0 { Curve::Lin } else { Curve::Exp }
-}
-
-fn read_shape(o: u8) -> Shape
-    ensures { λ r. ⌜ r ≡ shapeOf o ⌝ }
-{
-    match o {
-        0 => Shape::Sine,
-        1 => Shape::Square,
-        2 => Shape::Triangle,
-        _ => Shape::Saw,
-    }
-}
-
 // A kind that is no value's reads as a Const.
 pub fn read_value(r: &[u8]) -> Value
     requires { ⌜ 40 ≤ length (now r) ⌝ }
@@ -203,10 +174,10 @@ pub fn read_value(r: &[u8]) -> Value
             from: number(r, 0),
             to: number(r, 1),
             secs: number(r, 2),
-            curve: read_curve(option(r)),
+            curve: dsl::curve_of(option(r)),
         },
         43 => Value::Lfo {
-            shape: read_shape(option(r)),
+            shape: dsl::shape_of(option(r)),
             rate: number(r, 0),
             depth: number(r, 1),
             center: number(r, 2),

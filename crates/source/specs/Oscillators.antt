@@ -27,7 +27,7 @@ advance phase dt = wrapOf binary32 (phase ⊕ dt)
 unfoldable pub sineOf : Float → Float → Float → Float → Phased
 sineOf f pitch srf phase = record { out = oscOf Sine phase; phase = advance phase (increment f pitch srf) }
 
--- a pulse wave: 1 up to the duty and -1 from there, and then with both edges mended
+-- a pulse wave: 1 up to the duty and -1 from there, and then with PolyBLEP at both edges
 abbrev pub pulseLevel : Float → Float → Float
 pulseLevel phase duty = cond (lt phase duty) one (neg one)
 
@@ -46,7 +46,7 @@ sawAt phase dt = two ⊗ phase ⊖ one ⊖ polyBlep phase dt
 unfoldable pub sawOf : Float → Float → Float → Float → Phased
 sawOf f pitch srf phase = let dt = increment f pitch srf in record { out = sawAt phase dt; phase = advance phase dt }
 
--- a square of duty one half with both edges mended
+-- a square of duty one half with PolyBLEP at both edges
 unfoldable pub halfPulse : Float → Float → Float
 halfPulse phase dt = pulseLevel phase half ⊕ polyBlep phase dt ⊖ polyBlep (fractOf binary32 (phase ⊕ half)) dt
 

@@ -1,6 +1,6 @@
 -- The other sources for one sample: the strike of a mallet, the noises, dust.
 use mathlib.Core.Bool.{cond}
-use mathlib.Core.List.{List, [], _∷_}
+use mathlib.Core.List.{[], _∷_}
 use Prim.Native.Nat.{ℕ, max}
 use lib.IntN.{pos}
 use lib.ListN.{getD}
@@ -40,7 +40,7 @@ envOf a d s r punch srf relStart t = adsrOf (secondsOf t srf) a d s r punch relS
 unfoldable pub whiteOf : ℕ → Drawn
 whiteOf word = record { out = biOf word; word = stepped word }
 
--- pink: Paul Kellet's filter of seven poles over white noise w
+-- pink: Paul Kellet's filter over white noise w: the sum of six one-pole filters, of w and of the w before; the state is their outputs and that w, weighted
 abbrev pub pole : Poles → ℕ → Float
 pole p k = getD (p .b) k nan
 
@@ -56,7 +56,7 @@ pinkOf word p =
     let v = b0 ⊕ b1 ⊕ b2 ⊕ b3 ⊕ b4 ⊕ b5 ⊕ pole p 6 ⊕ w ⊗ ofBits binary32 0x3f09_4467 in
     record { out = v ⊗ ofBits binary32 0x3de1_47ae; word = stepped word; poles = record { b = b0 ∷ b1 ∷ b2 ∷ b3 ∷ b4 ∷ b5 ∷ (w ⊗ ofBits binary32 0x3ded_6a9c) ∷ [] } }
 
--- brown: white noise integrated with a leak, eight times, clamped
+-- brown: white noise integrated with a leak, times 8, clamped
 unfoldable pub brownOf : ℕ → Float → BrownOut
 brownOf word last =
     let l = (last ⊕ ofBits binary32 0x3ca3_d70a ⊗ biOf word) ⊗ ofBits binary32 0x3f7f_7cee in
@@ -71,6 +71,6 @@ dustDecay decay srf = cond (lt zero decay) (onePoleOf decay srf) zero
 
 unfoldable pub dustOf : ℕ → Float → Float → Float → DustOut
 dustOf word p g y =
-    let struck : DustOut = record { out = biOf (stepped word) ⊕ g ⊗ y; word = stepped (stepped word); y = biOf (stepped word) ⊕ g ⊗ y } in
-    let quiet : DustOut = record { out = zero ⊕ g ⊗ y; word = stepped word; y = zero ⊕ g ⊗ y } in
-    cond (lt (unitOf word) p) struck quiet
+    let hit = lt (unitOf word) p in
+    let z = cond hit (biOf (stepped word)) zero ⊕ g ⊗ y in
+    record { out = z; word = cond hit (stepped (stepped word)) (stepped word); y = z }

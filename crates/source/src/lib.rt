@@ -26,7 +26,7 @@ pub struct Drawn {
     pub word: u64,
 }
 
-// Pink noise's seven poles, beside the colour: an enum cannot hold an array.
+// The state of pink noise's filter, beside the colour: an enum cannot hold an array.
 pub struct Poles {
     pub b: [f32; 7],
 }

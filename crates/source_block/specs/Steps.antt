@@ -1,8 +1,8 @@
 -- The one-sample kernels as steps of a block: sample k of the values' buffers goes in, and the state is what the kernel leaves.
 use mathlib.Core.List.{List}
 use Prim.Native.Nat.{ℕ, _+_}
-use lib.ListN.{getD}
-use lib.Ieee.{Float, nan}
+use lib.Ieee.{Float}
+use Rattle.block.specs.Iterate.{at}
 use Rattle.source.specs.Oscillators.{sineOf, squareOf, sawOf, triangleOf, fmOf}
 use Rattle.source.specs.Others.{impactOf, envOf, whiteOf, pinkOf, brownOf, dustOf}
 use Rattle.source.specs.declared.Poles.{Poles}
@@ -16,10 +16,6 @@ use Rattle.source_block.specs.declared.Fm.{Fm}
 use Rattle.source_block.specs.declared.Pink.{Pink}
 use Rattle.source_block.specs.declared.Brown.{Brown}
 use Rattle.source_block.specs.declared.Dust.{Dust}
-
--- sample k of a buffer
-abbrev pub at : List Float → ℕ → Float
-at xs k = getD xs k nan
 
 unfoldable pub sineStep : List Float → List Float → Float → ℕ → Float → Float × Float
 sineStep f pitch srf k phase = let s = sineOf (at f k) (at pitch k) srf phase in (s .out, s .phase)

@@ -1,7 +1,7 @@
 use mathlib.Core.Path.{_≡_, refl}
-use mathlib.Core.Bool.{true, false}
-use lib.IntN.{pos, negsuc}
-use lib.Ieee.{Float, nan, inf, fin, binary32, ofBits}
+use mathlib.Core.Bool.{false}
+use lib.IntN.{pos}
+use lib.Ieee.{fin, binary32, ofBits}
 use Rattle.sqrt.specs.Sqrt.{sqrtOf}
 
 -- 2.0, 4.0, the smallest f32, the largest

@@ -1,6 +1,6 @@
 -- The square root of an f32, rounded to the nearest f32, by squares of whole numbers.
 use Prim.Native.Nat.{ℕ, zero, suc, _+_, _-_, _*_, _/_, _^_, _≤_, _<_}
-use mathlib.Core.Bool.{Bool, true, false, cond}
+use mathlib.Core.Bool.{true, false, cond}
 use lib.Dec.{leb}
 use lib.Ieee.{Float, nan, inf, fin, binary32, up, down, size, units}
 

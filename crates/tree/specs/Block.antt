@@ -1,11 +1,11 @@
 -- A block: n values of a function of the index, and a state that is stepped n times. One law for every block loop.
-use mathlib.Core.Path.{_≡_, refl, sym, ap, _∙_}
+use mathlib.Core.Path.{_≡_, refl, sym, _∙_}
 use mathlib.Core.List.{List, [], _∷_, _++_, append-assoc, append-nil}
 use Prim.Native.Nat.{ℕ, zero, suc, _+_, _≤_, _<_}
 use native.Mathlib.Numerals.{add-one}
 use native.Mathlib.Omega.{arith}
-use lib.ListN.{length, take, drop, set, getD, length-set, length-append, length-drop, drop-of-length-le, List·getD-append}
-use lib.Seq.{drop-cons, set-at, set-split, getD-at, ext-getD, getD-take, getD-drop, drop-drop}
+use lib.ListN.{length, take, drop, set, getD, length-set, length-append, drop-of-length-le, List·getD-append}
+use lib.Seq.{drop-cons, set-at, set-split, getD-at, ext-getD, getD-take, getD-drop}
 use native.Mathlib.Nat.{add-zero, eq-or-lt-of-le}
 use mathlib.Core.Logic.{⊎-elim}
 use Prim.Native.Nat.{_-_}

@@ -1,14 +1,14 @@
 -- The parts together: tables of links, a layout of the flat state, and the units' own actions
-use mathlib.Core.Path.{_≡_, refl, sym, ap, ap₂, _∙_, subst}
+use mathlib.Core.Path.{_≡_, refl, sym, ap, _∙_}
 use mathlib.Core.List.{List, [], _∷_, map}
 use mathlib.Core.Logic.{_≢_}
-use Prim.Native.Nat.{ℕ, zero, suc, _+_, _<_, _≤_}
+use Prim.Native.Nat.{ℕ, _+_, _<_, _≤_}
 use native.Mathlib.Omega.{arith}
 use lib.ListN.{length, getD, length-take, length-drop}
-use Rattle.tree.specs.Comm.{M, ret, bind, Comm, comm-ret, blk, blk-map, blk-sim-in, zip, interchange-with}
-use Rattle.tree.specs.Tree.{Tree, nil, node, In, Kind, leaf, Mode, piping, Rack, Split, Made, made-ret, made-bind, made-unit, run, brun, bstep, bone, vals, block}
+use Rattle.tree.specs.Comm.{M, ret, bind, blk, blk-map, blk-sim-in, zip, interchange-with}
+use Rattle.tree.specs.Tree.{Tree, Kind, leaf, Mode, piping, Rack, Split, run, brun, bstep, bone, vals, block}
 use Rattle.tree.specs.Forest.{Forest, whole, whole-nil, whole-node, root, root-apart}
-use Rattle.tree.specs.Flat.{Layout, Rows, Flat, own, put, put-own, put-again, put-lengths, own-put-same, Fits, own-fits, own-put, own-put-other, lift, lift-comm}
+use Rattle.tree.specs.Flat.{Layout, Rows, Flat, own, put, put-own, put-again, put-lengths, own-put-same, lift, lift-comm}
 use Rattle.tree.specs.Loop.{Kern, kblk, pair}
 
 -- what is fixed between two moves

@@ -1,8 +1,11 @@
--- The values of document 01 for one sample. t is the position as an f32, srf the rate; what depends on the sheet alone is given: secs floored, the release's start, Rand's increment.
+-- The values of document 01 for one sample. t is the position, srf the rate as an f32; what depends on the sheet alone is given: secs floored, the release's start, Rand's increment.
 use mathlib.Core.Bool.{Bool, true, false, cond, _&&_}
+use mathlib.Core.List.{List}
 use Prim.Native.Nat.{ℕ, zero, suc, _%_}
+use lib.Dec.{eqb}
+use lib.ListN.{length, getD}
 use lib.IntN.{pos}
-use lib.Ieee.{Float, binary32, lt, le, ofBits, ofInt, toUnsigned}
+use lib.Ieee.{Float, nan, binary32, lt, le, ofBits, ofInt, toUnsigned}
 use Rattle.float.specs.Whole.{fractOf}
 use Rattle.float.specs.Order.{maxOf, minOf, clampOf}
 use Rattle.float.specs.Single.{_⊕_, _⊖_, _⊗_, _⊘_, zero as zeroF, one, two, three}
@@ -19,19 +22,19 @@ use Rattle.value.specs.declared.Rand.{Rand}
 abbrev pub secondsOf : ℕ → Float → Float
 secondsOf t srf = ofInt binary32 (pos t) ⊘ srf
 
--- from one number to another, a part p of the way
-abbrev pub towards : Float → Float → Float → Float
-towards from to p = from ⊕ (to ⊖ from) ⊗ p
+-- linear interpolation
+abbrev pub lerp : Float → Float → Float → Float
+lerp from to p = from ⊕ (to ⊖ from) ⊗ p
 
 -- Slide: over secs, at least a millionth, along a line, or along a geometric curve where both ends are above 0 and a parabola where not
 unfoldable pub slideSecs : Float → Float
 slideSecs secs = maxOf secs (ofBits binary32 0x3586_37bd)
 
 unfoldable pub slideExp : Float → Float → Float → Float
-slideExp from to p = cond (lt zeroF from && lt zeroF to) (from ⊗ power (to ⊘ from) p) (towards from to (p ⊗ p))
+slideExp from to p = cond (lt zeroF from && lt zeroF to) (from ⊗ power (to ⊘ from) p) (lerp from to (p ⊗ p))
 
 unfoldable pub slideOf : Curve → Float → Float → Float → Float → ℕ → Float
-slideOf Lin from to secs srf t = towards from to (clampOf (secondsOf t srf ⊘ secs) zeroF one)
+slideOf Lin from to secs srf t = lerp from to (clampOf (secondsOf t srf ⊘ secs) zeroF one)
 slideOf Exp from to secs srf t = slideExp from to (clampOf (secondsOf t srf ⊘ secs) zeroF one)
 
 -- Lfo: the phase is the fraction of the turns made, which is negative where the rate is
@@ -45,12 +48,16 @@ lfoOf shape rate depth center srf t = center ⊕ depth ⊗ oscOf shape (lfoPhase
 unfoldable pub arpIndex : Float → Float → ℕ → ℕ → ℕ
 arpIndex rate srf t n = toUnsigned 64 (secondsOf t srf ⊗ rate) % n
 
+-- the step that sounds; without steps, 0
+unfoldable pub arpOf : List Float → Float → Float → ℕ → Float
+arpOf steps rate srf t = cond (eqb (length steps) 0) zeroF (getD steps (arpIndex rate srf t (length steps)) nan)
+
 -- the release of an envelope starts r seconds before the sheet's length n, and not before 0
 unfoldable pub releaseStart : ℕ → Float → Float → Float
 releaseStart n srf r = maxOf (ofInt binary32 (pos n) ⊘ srf ⊖ r) zeroF
 
 unfoldable pub envModOf : Float → Float → Float → Float → Float → Float → Float → Float → Float → ℕ → Float
-envModOf a d s r punch from to srf relStart t = towards from to (adsrOf (secondsOf t srf) a d s r punch relStart)
+envModOf a d s r punch from to srf relStart t = lerp from to (adsrOf (secondsOf t srf) a d s r punch relStart)
 
 -- Rand: a walk between numbers drawn one after another, smoothed by 3 p² - 2 p³ in each segment. The increment is how many segments a sample makes, at most 64.
 unfoldable pub randIncrement : Float → Float → Float
@@ -65,7 +72,7 @@ randOut s =
 unfoldable pub randTurn : Float → Float → Rand → Rand
 randTurn from to s = record { word = stepped (s .word); prev = s .next; next = rangeOf (s .word) from to; phase = s .phase ⊖ one }
 
--- while the phase is 1 or more, n times at most; the test is an argument. An increment of at most 64 on a phase below 1 takes at most 65.
+-- while the phase is 1 or more, n times at most; the test is an argument. An increment of at most 64 on a phase below 1 takes at most 65, so the bound cuts nothing off (`catch-ends`).
 unfoldable pub catchUp : ℕ → Bool → Float → Float → Rand → Rand
 catchUp zero more from to s = s
 catchUp (suc n) false from to s = s

@@ -7,7 +7,7 @@ ghost use lib.Dec.{T};
 ghost use lib.IntN.{pos};
 ghost use lib.Ieee as Ieee;
 ghost use lib.Ieee.{fin};
-ghost use Rattle.value.specs.Modulators.{secondsOf, slideSecs, slideOf, lfoPhase, lfoOf, arpIndex, releaseStart, envModOf, randIncrement, randOut, randTurn, randNext};
+ghost use Rattle.value.specs.Modulators.{secondsOf, slideSecs, slideOf, lfoPhase, lfoOf, arpIndex, arpOf, releaseStart, envModOf, randIncrement, randOut, randTurn, randNext};
 
 // The position in seconds.
 pub fn seconds(t: u64, srf: f32) -> f32
@@ -23,8 +23,8 @@ pub fn slide_secs(secs: f32) -> f32
     float::max(secs, 1e-6)
 }
 
-fn lin(from: f32, to: f32, p: f32) -> f32
-    ensures { λ r. ⌜ r ≡ Rattle.value.specs.Modulators.towards from to p ⌝ }
+fn lerp(from: f32, to: f32, p: f32) -> f32
+    ensures { λ r. ⌜ r ≡ Rattle.value.specs.Modulators.lerp from to p ⌝ }
 {
     from + (to - from) * p
 }
@@ -35,7 +35,7 @@ fn slide_exp(from: f32, to: f32, p: f32) -> f32
     if from > 0.0 && to > 0.0 {
         from * dsp::powf(to / from, p)
     } else {
-        lin(from, to, p * p)
+        lerp(from, to, p * p)
     }
 }
 
@@ -44,7 +44,7 @@ pub fn slide(curve: dsl::Curve, from: f32, to: f32, secs: f32, srf: f32, t: u64)
 {
     let p = float::clamp(seconds(t, srf) / secs, 0.0, 1.0);
     match curve {
-        dsl::Curve::Lin => lin(from, to, p),
+        dsl::Curve::Lin => lerp(from, to, p),
         dsl::Curve::Exp => slide_exp(from, to, p),
     }
 }
@@ -70,6 +70,17 @@ pub fn arp_index(rate: f32, srf: f32, t: u64, n: u64) -> u64
     cast::f32_to_u64(seconds(t, srf) * rate) % n
 }
 
+// The step that sounds; an Arp without steps is 0.
+pub fn arp(steps: &[f32], rate: f32, srf: f32, t: u64) -> f32
+    ensures { λ r. ⌜ r ≡ arpOf (now (steps .entry)) rate srf t ⌝ }
+{
+    if steps.len() == 0 {
+        return 0.0;
+    }
+    let i = arp_index(rate, srf, t, steps.len() as u64);
+    steps[i as usize]
+}
+
 // Where the release starts: r seconds before the sheet's length n, and not before 0.
 pub fn release_start(n: u64, srf: f32, r: f32) -> f32
     ensures { λ v. ⌜ v ≡ releaseStart n srf r ⌝ }
@@ -91,7 +102,7 @@ pub fn env_mod(
 ) -> f32
     ensures { λ v. ⌜ v ≡ envModOf a d s r punch from to srf «rel_start» t ⌝ }
 {
-    lin(
+    lerp(
         from,
         to,
         dsp::adsr_env(seconds(t, srf), a, d, s, r, punch, rel_start),

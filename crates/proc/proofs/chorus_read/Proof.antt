@@ -11,7 +11,7 @@ next-place-requires c κs = mod-lt (c .f32-to-u64 .result) (c .before .before .b
 returns : tie.Need-returns
 unfolding chorusRead
 returns c = (
-  rw (c .next-place .ensures .0, c .before .f32-to-u64 .ensures, c .before .before .floor .ensures, c .before .before .before .rem-euclid .ensures, c .before .before .before .before .u64-to-f322 .ensures, c .before .before .before .before .before .u64-to-f32 .ensures, c .before .before .before .before .before .before .wobble-at .ensures),
+  rw (c .next-place .ensures .0, c .before .f32-to-u64 .ensures, c .before .before .floor .ensures, c .before .before .before .rem-euclid .ensures, c .before .before .before .before .u64-to-f322 .ensures, c .before .before .before .before .before .u64-to-f32 .ensures, c .before .before .before .before .before .before .lfo-at .ensures),
   mod-lt (c .before .f32-to-u64 .result) (c .before .before .before .before .before .before .before .pre),
   c .next-place .ensures .1,
 )

@@ -8,11 +8,11 @@ use Rattle.sheet.proofs.read_value.Tie as tie
 
 returns : tie.Need-returns
 unfolding valueOf
-returns c = rw (c .before .before .before .before .number .ensures, c .before .before .before .number2 .ensures, c .before .before .number3 .ensures, sym (c .before .before .before .before .before .before .kind .ensures) ∙ c .before .before .before .before .before .match .keys1, c .read-curve .ensures, c .before .option .ensures)
+returns c = rw (c .before .before .before .before .number .ensures, c .before .before .before .number2 .ensures, c .before .before .number3 .ensures, sym (c .before .before .before .before .before .before .kind .ensures) ∙ c .before .before .before .before .before .match .keys1, c .curve-of .ensures, c .before .option .ensures)
 
 returns-2 : tie.Need-returns-2
 unfolding valueOf
-returns-2 c = rw (c .before .before .number4 .ensures, c .before .number5 .ensures, c .number6 .ensures, sym (c .before .before .before .before .before .before .kind .ensures) ∙ c .before .before .before .before .before .match .keys2, c .before .before .before .read-shape .ensures, c .before .before .before .before .option2 .ensures)
+returns-2 c = rw (c .before .before .number4 .ensures, c .before .number5 .ensures, c .number6 .ensures, sym (c .before .before .before .before .before .before .kind .ensures) ∙ c .before .before .before .before .before .match .keys2, c .before .before .before .shape-of .ensures, c .before .before .before .before .option2 .ensures)
 
 returns-3 : tie.Need-returns-3
 unfolding valueOf

@@ -6,7 +6,7 @@ use Rattle.value.proofs.slide.Tie as tie
 
 returns : tie.Need-returns
 unfolding slideOf
-returns c = rw (c .lin .ensures, c .before .enum-told .given .1, c .before .before .before .clamp .ensures, c .before .before .before .before .seconds .ensures)
+returns c = rw (c .lerp .ensures, c .before .enum-told .given .1, c .before .before .before .clamp .ensures, c .before .before .before .before .seconds .ensures)
 
 returns-2 : tie.Need-returns-2
 unfolding slideOf

@@ -11,7 +11,7 @@ returns c = rw (c .powf .ensures, c .before .if2 .taken, c .before .before .if1 
 
 returns-2 : tie.Need-returns-2
 unfolding slideExp
-returns-2 c = ⊎-elim (λ w. rw (c .lin .ensures, w .0 .taken, w .1 .left)) (λ w. rw (c .lin .ensures, w .left)) (c .before .if1 .came)
+returns-2 c = ⊎-elim (λ w. rw (c .lerp .ensures, w .0 .taken, w .1 .left)) (λ w. rw (c .lerp .ensures, w .left)) (c .before .if1 .came)
 
 pub slide-exp-spec : {M : Type 1} → statement M
 slide-exp-spec = tie.close (tie.spec (λ c κs. search needs) (λ c κs. search needs) returns returns-2)

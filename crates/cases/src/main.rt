@@ -1,4 +1,5 @@
-// The cases of document 01 that are no row of the proved table, and their neighbours: floats by their bits, check 10 by its answer.
+// The starred cases of document 01 are the table in specs/. This runs its other cases, and their neighbours: floats by their
+// bits, check 10 by its answer.
 use libc::STDOUT_FILENO;
 
 fn say(name: &[u8], n: u64) {
@@ -12,7 +13,7 @@ fn say_float(name: &[u8], x: f32) {
 }
 
 fn check_10(position: u64, length: u64) -> u64 {
-    if combine::positions_left(position, length) {
+    if control::positions_left(position, length) {
         0
     } else {
         10
@@ -23,11 +24,11 @@ fn main() {
     let xs = [0.5f32, 0.25f32];
     say_float(
         b"Arp without steps: ",
-        combine::arp(&xs[..0], 2.0, 8000.0, 6000),
+        value::arp(&xs[..0], 2.0, 8000.0, 6000),
     );
     say_float(
         b"Arp of 0.5 and 0.25, second step: ",
-        combine::arp(&xs[..2], 2.0, 8000.0, 6000),
+        value::arp(&xs[..2], 2.0, 8000.0, 6000),
     );
     say_float(b"Mix of none: ", combine::mix(&xs[..0]));
     say_float(b"Mix of 0.5 and 0.25: ", combine::mix(&xs[..2]));

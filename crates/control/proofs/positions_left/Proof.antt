@@ -1,13 +1,13 @@
--- `combine::positions_left` meets its contract. Assumes nothing.
+-- `control::positions_left` meets its contract. Assumes nothing.
 use mathlib.Core.Path.{_≡_, sym, _∙_}
 use Prim.Native.Nat.{ℕ, _+_, _-_, _^_, _≤_, _<_}
 use native.Mathlib.Omega.{arith}
 use native.Mathlib.Decide.{decLt}
 use lib.Dec.{leb}
 use borrow.Author.Tests.{le-leb, lt-leb}
-use Rattle.combine.specs.Combine.{leftFor}
-use Rattle.combine.proofs.positions_left.Statement.{statement}
-use Rattle.combine.proofs.positions_left.Tie as tie
+use Rattle.control.specs.Moves.{leftFor}
+use Rattle.control.proofs.positions_left.Statement.{statement}
+use Rattle.control.proofs.positions_left.Tie as tie
 
 -- the sum may not fit a word, the difference does
 moved : (p l m : ℕ) → l ≤ m → leb p (m - l) ≡ leb (p + l) m

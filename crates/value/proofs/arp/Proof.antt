@@ -1,4 +1,4 @@
--- `combine::arp` meets its contract. Assumes nothing.
+-- `value::arp` meets its contract. Assumes nothing.
 use mathlib.Core.Path.{_≡_, ap, _∙_}
 use Prim.Native.Nat.{ℕ, _<_, _≤_}
 use native.Mathlib.Nat.{mod-lt}
@@ -7,10 +7,9 @@ use lib.ListN.{length, getD}
 use lib.Ieee.{Float, nan}
 use borrow.Author.Needs.{needs}
 use borrow.Author.Tests.{eq-eqb, ne-eqb}
-use Rattle.value.specs.Modulators.{arpIndex}
-use Rattle.combine.specs.Combine.{arpOf}
-use Rattle.combine.proofs.arp.Statement.{statement}
-use Rattle.combine.proofs.arp.Tie as tie
+use Rattle.value.specs.Modulators.{arpIndex, arpOf}
+use Rattle.value.proofs.arp.Statement.{statement}
+use Rattle.value.proofs.arp.Tie as tie
 
 inside : (rate srf : Float) (t n : ℕ) → 0 < n → arpIndex rate srf t n < n
 unfolding arpIndex
