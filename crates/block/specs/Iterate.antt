@@ -7,7 +7,7 @@ use native.Mathlib.Numerals.{add-one}
 use native.Mathlib.Omega.{arith}
 use lib.ListN.{length, getD}
 use lib.Ieee.{Float, nan}
-use Rattle.tree.specs.Comm.{M, blk, later}
+use Rattle.tree.specs.Comm.{M, ret, bind, Comm, comm-sym, comm-then, comm-ret, comm-bind, blk, later}
 use Rattle.tree.specs.Block.{tab, length-tab, getD-tab}
 
 -- sample k of a buffer
@@ -86,20 +86,53 @@ module _ {S A : Type 0} where
       one : sampleAt f s n ≡ sampleAt g s n
       one = ap (λ (u : S). f n u .0) (after-same f g s n (λ k h. e k (omega arith))) ∙ ap (λ (p : A × S). p .0) (e n (omega arith) (after g s n))
 
--- ---- the same steps on another state, of which the first is a part
-module _ {S U A : Type 0} (φ : S → U) (f : ℕ → S → A × S) (g : ℕ → U → A × U) (e : (k : ℕ) (s : S) → g k (φ s) ≡ (f k s .0, φ (f k s .1))) where
-  pub after-part : (s : S) (n : ℕ) → after g (φ s) n ≡ φ (after f s n)
-  unfolding after
-  after-part s zero = refl
-  after-part s (suc n) = ap (λ (u : U). g n u .1) (after-part s n) ∙ ap (λ (p : A × U). p .1) (e n (after f s n))
+  -- ---- an action that gives the first n samples
+  abbrev pub samples : (ℕ → S → A × S) → ℕ → M S (List A)
+  samples f n s = (given f s n, after f s n)
 
-  pub given-part : (s : S) (n : ℕ) → given g (φ s) n ≡ given f s n
-  unfolding given tab
-  given-part s zero = refl
-  given-part s (suc n) = λ i. given-part s n i ++ (one i ∷ [])
+  pub samples-same : (f g : ℕ → S → A × S) (n : ℕ) → ((k : ℕ) → k < n → (u : S) → f k u ≡ g k u) → (s : S) → samples f n s ≡ samples g n s
+  samples-same f g n e s = λ i. (given-same f g s n e i, after-same f g s n e i)
+
+-- ---- two actions for each sample: first all of the one, then all of the other
+module _ {S : Type 0} where
+  pub samples-comm : {Y Z : Type 0} (f : ℕ → M S Y) (g : M S Z) → ((k : ℕ) → Comm (f k) g) → (n : ℕ) → Comm (samples f n) g
+  unfolding given after tab
+  samples-comm f g c zero = comm-ret []
+  samples-comm f g c (suc n) = comm-bind (samples-comm f g c n) (λ ys. comm-bind (c n) (λ y. comm-ret (ys ++ (y ∷ []))))
+
+  pub samples-interchange : {Y Z : Type 0} (f : ℕ → M S Y) (g : ℕ → Y → M S Z) → ((k j : ℕ) (y : Y) → Comm (f k) (g j y)) → (d : Y) (n : ℕ) (s : S)
+      → samples (λ k. bind (f k) (g k)) n s ≡ bind (samples f n) (λ ys. samples (λ k. g k (getD ys k d)) n) s
+  unfolding given after tab
+  samples-interchange {Y} {Z} f g c d n s = go n ∙ samples-same then (λ k. g k (getD (given f s n) k d)) n (λ k h u. ap (λ (y : Y). g k y u) (sym (given-at f s n k d h))) (after f s n)
     where
-      one : sampleAt g (φ s) n ≡ sampleAt f s n
-      one = ap (λ (u : U). g n u .0) (after-part s n) ∙ ap (λ (p : A × U). p .0) (e n (after f s n))
+      then : ℕ → M S Z
+      then k = g k (sampleAt f s k)
+
+      go : (n : ℕ) → samples (λ k. bind (f k) (g k)) n s ≡ samples then n (after f s n)
+      go zero = refl
+      go (suc n) = ap (λ (r : List Z × S). bind (f n) (λ y. bind (g n y) (λ z. ret (r .0 ++ (z ∷ [])))) (r .1)) (go n)
+          ∙ (λ i. comm-then (samples-comm then (f n) (λ k. comm-sym (c n k (sampleAt f s k))) n) (λ zs y. bind (g n y) (λ z. ret (zs ++ (z ∷ [])))) i (after f s n))
+
+-- ---- the same steps on another state, of which the first is a part
+module _ {S U A : Type 0} (φ : S → U) (f : ℕ → S → A × S) (g : ℕ → U → A × U) where
+  -- for states of which something holds that the steps keep
+  pub part-while : (Inv : S → Type 0) (n : ℕ) → ((k : ℕ) → k < n → (s : S) → Inv s → Inv (f k s .1) × (g k (φ s) ≡ (f k s .0, φ (f k s .1))))
+      → (s : S) → Inv s → (given g (φ s) n ≡ given f s n) × (after g (φ s) n ≡ φ (after f s n)) × Inv (after f s n)
+  unfolding given after tab
+  part-while Inv zero e s i = (refl, refl, i)
+  part-while Inv (suc n) e s i =
+      let r = part-while Inv n (λ k h. e k (omega arith)) s i in
+      let t = e n (omega arith) (after f s n) (r .2) in
+      let now : g n (after g (φ s) n) ≡ (f n (after f s n) .0, φ (f n (after f s n) .1)) = ap (g n) (r .1) ∙ t .1 in
+      (λ j. r .0 j ++ (now j .0 ∷ []), ap (λ (p : A × U). p .1) now, t .0)
+
+  pub part-in : (n : ℕ) → ((k : ℕ) → k < n → (s : S) → g k (φ s) ≡ (f k s .0, φ (f k s .1)))
+      → (s : S) → (given g (φ s) n ≡ given f s n) × (after g (φ s) n ≡ φ (after f s n))
+  part-in n e s = let r = part-while (λ u. Unit {0}) n (λ k h u i. (tt, e k h u)) s tt in (r .0, r .1)
+
+-- what each step keeps holds after all of them
+pub after-keeps : {S A : Type 0} (Inv : S → Type 0) (f : ℕ → S → A × S) → ((k : ℕ) (s : S) → Inv s → Inv (f k s .1)) → (s : S) → Inv s → (n : ℕ) → Inv (after f s n)
+after-keeps Inv f e s i n = part-while (λ u. u) f f Inv n (λ k h u j. (e k u j, refl)) s i .2
 
 -- ---- as the theory of trees has it: inputs in a list, moments one after another
 module _ {T S X A : Type 0} (nx : T → T) (f : T → X → M S A) (d : X) where

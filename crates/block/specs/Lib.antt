@@ -1,2 +1,3 @@
 pub mod Iterate
 pub mod Loop
+pub mod Patch

@@ -14,6 +14,21 @@ fresh = record { position = 0; pitch = one; target = one; glide = one; bend = on
 abbrev pub glided : Float → Float → Float → Float
 glided pitch target glide = pitch ⊕ (target ⊖ pitch) ⊗ glide
 
+-- the controls of a sample, its pitch moved; and after it, the position one more
+unfoldable pub moved : Controls → Controls
+moved c = record { position = c .position; pitch = glided (c .pitch) (c .target) (c .glide); target = c .target; glide = c .glide; bend = c .bend }
+
+unfoldable pub risen : Controls → Controls
+risen c = record { position = c .position + 1; pitch = c .pitch; target = c .target; glide = c .glide; bend = c .bend }
+
+-- from the controls of a sample to those of the next
+abbrev pub following : Controls → Controls
+following c = moved (risen c)
+
+-- what the sources read for the pitch: a product that is not stored
+abbrev pub bent : Controls → Float
+bent c = c .pitch ⊗ c .bend
+
 -- a NaN counts as 1; else from 2 ^ -126, the smallest normal number, to 1
 unfoldable pub glideOf : Float → Float
 glideOf coefficient = cond (isNan coefficient) one (clampOf coefficient (ofBits binary32 0x0080_0000) one)

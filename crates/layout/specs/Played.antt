@@ -7,7 +7,7 @@ use Prim.Native.Nat.{ℕ, zero, suc, _+_, _-_, _≤_, _<_}
 use native.Mathlib.Omega.{arith}
 use native.Mathlib.Decide.{ℕ-discrete}
 use Rattle.tree.specs.Tree.{Tree, In, here, kid, rest, Apart}
-use Rattle.tree.specs.Forest.{Forest, build, Link, down, along, whole, root, root-apart}
+use Rattle.tree.specs.Forest.{Forest, build, Link, down, along, whole, root, root-apart, root-all}
 use Rattle.sheet.specs.Record.{countOf, kind, first, next}
 use Rattle.sheet.specs.Kinds.{isProcessor}
 use Rattle.layout.specs.Built.{linker, owner, trailing, silent, built, role, isPlayed, begin, after}
@@ -57,19 +57,6 @@ module _ (first next : ℕ → ℕ) (f : Forest first next) (N : ℕ) (first-in 
   root-link some here (along d e) = subst (λ j. In j (root first next N)) e (rest (whole-self (next 0) d (next-in 0 d)))
   root-link some (kid p) k = kid (whole-link (first 0) (link-in (first 0) (first-in 0) some) p k)
   root-link some (rest p) k = rest (whole-link (next 0) (link-in (next 0) (next-in 0) some) p k)
-
-  -- what holds of where the links lead holds of all records of the tree
-  module _ (P : ℕ → Type 0) (of-first : (i : ℕ) → P i → first i ≢ 0 → P (first i)) (of-next : (i : ℕ) → P i → next i ≢ 0 → P (next i)) where
-    build-all : (n a : ℕ) → (a ≢ 0 → P a) → {j : ℕ} → In j (build first next n a) → P j
-    build-all (suc n) (suc a) h here = h (omega arith)
-    build-all (suc n) (suc a) h (kid p) = build-all n (first (suc a)) (of-first (suc a) (h (omega arith))) p
-    build-all (suc n) (suc a) h (rest p) = build-all n (next (suc a)) (of-next (suc a) (h (omega arith))) p
-
-    pub root-all : P 0 → {j : ℕ} → In j (root first next N) → P j
-    unfolding root whole
-    root-all z here = z
-    root-all z (kid p) = build-all (N - first 0) (first 0) (of-first 0 z) p
-    root-all z (rest p) = build-all (N - next 0) (next 0) (of-next 0 z) p
 
 abbrev pub playedTree : List ℕ → Tree
 playedTree s = root (begin s) (after s) (countOf s)
@@ -216,7 +203,7 @@ module _ (s : List ℕ) (g : Good s) where
       ]
 
   -- ---- and nothing else
-  begin-played : (i : ℕ) → isPlayed (role s i) ≡ true → begin s i ≢ 0 → isPlayed (role s (begin s i)) ≡ true
+  pub begin-played : (i : ℕ) → isPlayed (role s i) ≡ true → begin s i ≢ 0 → isPlayed (role s (begin s i)) ≡ true
   begin-played i e d = elim (ℕ-discrete (kind s i) 13) [
     | yes k ↦
         let q = begin-chain s i r k in
@@ -245,7 +232,7 @@ module _ (s : List ℕ) (g : Good s) where
       e ∙ staged s g (first s i) n (g .first-in i n) .source (rw e at p)
 
   pub in-played : {j : ℕ} → In j (playedTree s) → (isPlayed (role s j) ≡ true) × (j < countOf s)
-  in-played p = root-all (begin s) (after s) played-forest (countOf s) begin-in after-in (λ j. (isPlayed (role s j) ≡ true) × (j < countOf s))
+  in-played p = root-all (begin s) (after s) (λ j. (isPlayed (role s j) ≡ true) × (j < countOf s))
       (λ i w d. (begin-played i (w .0) d, begin-in i d))
       (λ i w d. (rw (after-is i d) (next-played s g i (w .0) (λ z. d (after-is i d ∙ z))), after-in i d))
-      (root-played, g .some) p
+      (countOf s) (root-played, g .some) p

@@ -213,7 +213,7 @@ fn scratch_of(k: u8) -> u64
 }
 
 // How many records stand in the chain that begins at f.
-fn chain_length(sheet: &[u8], count: usize, nexts: &[usize], f: usize) -> u64
+pub fn chain_length(sheet: &[u8], count: usize, nexts: &[usize], f: usize) -> u64
     requires { ⌜ Passed (now sheet) count × Table (next (now sheet)) count (now nexts) × (f < count) ⌝ }
     ensures { λ r. ⌜ (r ≡ length (spine (records (now (sheet .entry)) f))) × (r ≤ 256) ⌝ }
 {

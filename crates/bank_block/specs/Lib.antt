@@ -1,0 +1,5 @@
+pub mod Banks
+pub mod Copy
+pub mod Interchange
+pub mod Lines
+pub mod Modes

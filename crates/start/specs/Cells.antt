@@ -1,0 +1,145 @@
+-- What the start values are by kind, how many there are, and the laws of the loops that write them.
+use mathlib.Core.Path.{_≡_, refl, sym, ap, _∙_}
+use mathlib.Core.List.{List, [], _∷_, _++_, append-assoc, append-nil}
+use mathlib.Core.Logic.{_≢_}
+use Prim.Native.Nat.{ℕ, zero, suc, _+_, _-_, _*_, _≤_, _<_}
+use native.Mathlib.Omega.{arith}
+use borrow.Author.Tests.{ne-eqb, lt-ltb, le-ltb}
+use lib.ListN.{length, getD, take, drop, set, replicate, length-append, length-take, length-drop, length-replicate, getD-replicate, drop-of-length-le}
+use lib.Seq.{ext-getD, take-at, take-all, length-take-le}
+use lib.Ieee.{Float, nan, binary32, ofBits}
+use borrow.Rule.Slice.PartMut.{midOf, postOf, putMid, mid-len, same-len-mid}
+use Rattle.float.specs.Single.{zero as zeroF}
+use Rattle.tree.specs.Block.{tab, length-tab, getD-tab}
+use Rattle.sheet.specs.Record.{rateOf, numberOf, recordAt, kind, next}
+use Rattle.sheet.specs.Tree.{records, spine}
+use Rattle.layout.specs.Built.{role, built}
+use Rattle.layout.specs.Good.{Good, good}
+use Rattle.layout.specs.Owners.{records-none, records-some}
+use Rattle.layout.specs.Needs.{needOf, cellsBy, registersBy}
+use Rattle.layout.specs.Counts.{cells-built, registers-built}
+use Rattle.layout.specs.Tables.{Table, Passed}
+use Rattle.dsp.specs.Coefficients.{modalOf}
+use Rattle.unit.specs.Start.{filterStart, atRest, modeStart, modalStart, startCells, startRegisters}
+
+-- ---- a constant table
+pub tab-same : {A : Type 0} (n : ℕ) (x : A) → tab n (λ k. x) ≡ replicate n x
+tab-same n x = ext-getD x _ _ (length-tab n (λ k. x) ∙ sym (length-replicate n x))
+    (λ k h. let l : k < n = omega (arith, length-tab n (λ (k : ℕ). x)) in getD-tab n (λ k. x) k x l ∙ sym (getD-replicate n k x x l))
+
+-- ---- a NaN's pattern
+pub quiet-nan : ofBits binary32 0x7fc0_0000 ≡ nan
+unfolding ofBits
+quiet-nan = refl
+
+-- ---- two halves of a slice, lent one after the other
+pub halves : {A : Type 0} (n : ℕ) (own xs ys : List A) (f g : ℕ → A) → length own ≡ 2 * n → xs ≡ tab (length (take n own)) f
+    → ys ≡ tab (length (midOf n (length (xs ++ drop n own) - n) (xs ++ drop n own))) g → putMid n (length (xs ++ drop n own) - n) (xs ++ drop n own) ys ≡ tab n f ++ tab n g
+halves {A} n own xs ys f g e p q =
+    ap {A = List A} (λ l. l ++ (ys ++ postOf n (length whole - n) whole)) (take-at xs (drop n own) n front)
+    ∙ ap {A = List A} (λ l. xs ++ (ys ++ l)) (drop-of-length-le (drop n whole) {i = length whole - n} (omega (arith, length-drop n whole)))
+    ∙ ap {A = List A} (λ l. xs ++ l) (append-nil ys)
+    ∙ (λ i. (p ∙ ap (λ m. tab m f) (length-take-le n own (omega arith))) i ++ (q ∙ ap (λ m. tab m g) back) i)
+  where
+    whole : List A
+    whole = xs ++ drop n own
+
+    front : length xs ≡ n
+    front = ap length p ∙ length-tab (length (take n own)) f ∙ length-take-le n own (omega arith)
+
+    long : length (xs ++ drop n own) ≡ 2 * n
+    long = simp (length-append, length-drop) (omega (arith, front))
+
+    back : length (midOf n (length (xs ++ drop n own) - n) (xs ++ drop n own)) ≡ n
+    back = mid-len n (length (xs ++ drop n own)) (xs ++ drop n own) (omega arith) ∙ omega (arith, long)
+
+-- ---- one cell
+pub one-cell : {A : Type 0} (own : List A) (v : A) → length own ≡ 1 → set own 0 v ≡ v ∷ []
+one-cell [] v e = let x : ⊥ = omega arith in absurd x
+one-cell (x ∷ []) v e = refl
+one-cell (x ∷ y ∷ zs) v e = let z : ⊥ = omega arith in absurd z
+
+-- ---- what lies from a record on is the record at least
+pub record-room : (s : List ℕ) (i : ℕ) → 24 + 40 * (i + 1) ≤ length s → 40 ≤ length (take (length s - (24 + 40 * i)) (drop (24 + 40 * i) s))
+record-room s i h = simp (length-take, length-drop) (omega arith)
+
+-- ---- how many
+need-filter : (d : ℕ) → d < 7 → (s : List ℕ) (i : ℕ) → kind s i ≡ 22 + d → cellsBy s i ≡ 11
+unfolding cellsBy needOf
+need-filter zero h s i e = rw e
+need-filter (suc zero) h s i e = rw e
+need-filter (suc (suc zero)) h s i e = rw e
+need-filter (suc (suc (suc zero))) h s i e = rw e
+need-filter (suc (suc (suc (suc zero)))) h s i e = rw e
+need-filter (suc (suc (suc (suc (suc zero))))) h s i e = rw e
+need-filter (suc (suc (suc (suc (suc (suc zero)))))) h s i e = rw e
+need-filter (suc (suc (suc (suc (suc (suc (suc d))))))) h s i e = let x : ⊥ = omega arith in absurd x
+
+module _ (s : List ℕ) (i : ℕ) where
+  pub filter-need : 21 < kind s i → kind s i < 29 → cellsBy s i ≡ 11
+  filter-need l h = need-filter (kind s i - 22) (omega arith) s i (omega arith)
+
+  -- ---- what they are
+  pub filter-start : 21 < kind s i → kind s i < 29 → startCells s i ≡ filterStart
+  unfolding startCells
+  filter-start l h = let d : kind s i ≢ 6 = omega arith in rw (ne-eqb (kind s i) 6 d, lt-ltb 21 (kind s i) l, lt-ltb (kind s i) 29 h)
+
+  -- the others: zeros, as many as are owned
+  pub low-start : role s i ≡ built → kind s i ≢ 6 → kind s i ≤ 21 → startCells s i ≡ replicate (cellsBy s i) zeroF
+  unfolding startCells
+  low-start r d h = rw (ne-eqb (kind s i) 6 d, le-ltb 21 (kind s i) h) (ap (λ n. replicate n zeroF) (cells-built s i r))
+
+  pub high-start : role s i ≡ built → 29 ≤ kind s i → kind s i ≢ 31 → kind s i ≢ 32 → kind s i ≢ 35 → kind s i ≢ 46 → startCells s i ≡ replicate (cellsBy s i) zeroF
+  unfolding startCells
+  high-start r h a b c d =
+      let z : kind s i ≢ 6 = omega arith in
+      let l : 21 < kind s i = omega arith in
+      rw (ne-eqb (kind s i) 6 z, lt-ltb 21 (kind s i) l, le-ltb (kind s i) 29 h, ne-eqb (kind s i) 31 a, ne-eqb (kind s i) 32 b, ne-eqb (kind s i) 35 c, ne-eqb (kind s i) 46 d)
+      (ap (λ n. replicate n zeroF) (cells-built s i r))
+
+  -- ---- registers
+  pub other-registers : role s i ≡ built → kind s i ≢ 9 → kind s i ≢ 10 → kind s i ≢ 46 → startRegisters s i ≡ replicate (registersBy s i) 0
+  unfolding startRegisters
+  other-registers r a b c = rw (ne-eqb (kind s i) 9 a, ne-eqb (kind s i) 10 b, ne-eqb (kind s i) 46 c) (ap (λ n. replicate n 0) (registers-built s i r))
+
+-- ---- Modal: along the chain, what is written and what the rest of the chain starts with are the whole
+abbrev pub chainStart : List ℕ → ℕ → List Float
+chainStart s j = modalStart s (spine (records s j))
+
+-- what a mode is lent, and the whole when it is back
+pub mode-length : {A : Type 0} (own : List A) (at : ℕ) → at + 5 ≤ length own → length (midOf at (at + 5 - at) own) ≡ 5
+mode-length own at h = mid-len at (at + 5) own h ∙ omega arith
+
+pub mode-back : {A : Type 0} (own xs : List A) (at : ℕ) → at + 5 ≤ length own → length xs ≡ 5 → length (putMid at (at + 5 - at) own xs) ≡ length own
+mode-back own xs at h e = same-len-mid at (at + 5 - at) own xs (e ∙ sym (mode-length own at h))
+
+pub mode-is : (s : List ℕ) (j rate : ℕ) (r : List ℕ) → r ≡ recordAt s j → rate ≡ rateOf s → atRest (modalOf (numberOf r 0) (numberOf r 1) (numberOf r 2) rate) ≡ modeStart s j
+mode-is s j rate r e q = ap (λ r. atRest (modalOf (numberOf r 0) (numberOf r 1) (numberOf r 2) rate)) e ∙ ap (λ n. let x = numberOf (recordAt s j) in atRest (modalOf (x 0) (x 1) (x 2) n)) q
+
+module _ (s : List ℕ) (n : ℕ) (a : Passed s n) where
+  accepted : Good s
+  accepted = good s (a .passed)
+
+  chain-none : (j : ℕ) → j ≡ 0 → chainStart s j ≡ []
+  unfolding modalStart spine
+  chain-none j e = ap (chainStart s) e ∙ rw (records-none s accepted)
+
+  chain-some : (j : ℕ) → j ≢ 0 → j < n → chainStart s j ≡ modeStart s j ++ chainStart s (next s j)
+  unfolding modalStart spine
+  chain-some j d h = ap (λ t. modalStart s (spine t)) (records-some s accepted j d (omega (arith, a .count)))
+
+  pub modal-turn : (nexts : List ℕ) → Table (next s) n nexts → (j : ℕ) → j ≢ 0 → j < n → (own xs rest : List Float) (at : ℕ) → at + 5 ≤ length own → xs ≡ modeStart s j
+      → (total : List Float) → take at own ++ chainStart s j ≡ total → take (at + 5) (take at own ++ (xs ++ rest)) ++ chainStart s (getD nexts j 0) ≡ total
+  modal-turn nexts w j d h own xs rest at l e total q =
+      ap (λ l. l ++ chainStart s (getD nexts j 0)) (ap (take (at + 5)) (sym (append-assoc (take at own) xs rest)) ∙ take-at (take at own ++ xs) rest (at + 5) long)
+      ∙ append-assoc (take at own) xs (chainStart s (getD nexts j 0))
+      ∙ ap (λ m. take at own ++ (xs ++ chainStart s m)) (w .at j h)
+      ∙ ap (λ l. take at own ++ (l ++ chainStart s (next s j))) e
+      ∙ ap (λ l. take at own ++ l) (sym (chain-some j d h))
+      ∙ q
+    where
+      long : length (take at own ++ xs) ≡ at + 5
+      long = simp length-append (omega (arith, length-take-le at own (omega arith), ap length e))
+
+  pub modal-end : (j : ℕ) → j ≡ 0 → (own : List Float) (at : ℕ) → length own ≤ at → (total : List Float) → take at own ++ chainStart s j ≡ total → own ≡ total
+  modal-end j z own at l total q = sym (take-all at own l) ∙ sym (append-nil (take at own)) ∙ ap (λ l. take at own ++ l) (sym (chain-none j z)) ∙ q

@@ -1,0 +1,11 @@
+pub mod Own
+pub mod Values
+pub mod Sources
+pub mod Processors
+pub mod Unit
+pub mod Voice
+pub mod State
+pub mod Start
+pub mod Block
+pub mod Laws
+pub mod Sound

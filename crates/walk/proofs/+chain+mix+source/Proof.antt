@@ -1,0 +1,1478 @@
+use mathlib.Core.Path.{_≡_, refl, sym, ap, _∙_}
+use Prim.Native.Nat.{_-_, _+_, _*_, _≤_}
+use native.Mathlib.Omega.{arith}
+use lib.ListN.{length, getD}
+use Rattle.sheet.specs.Record.{countOf, kind}
+use Rattle.sheet.specs.Kinds.{isFold}
+use Rattle.layout.specs.Good.{good}
+use Rattle.layout.specs.Needs.{scratchFrom}
+use Rattle.layout.specs.Laws.{playable}
+use Rattle.walk.specs.Nodes.{chain-nodes, fold-nodes, fold-scratch}
+use Rattle.walk.specs.Walk.{ready-same, scratch-same, Chaining, chain-start, chain-again, chain-end, Mixing, mix-start, mix-again, mix-end, sourced-chain, sourced-leaf, sourced-mix, fold-is, chain-is, left, left-less}
+use borrow.Author.Needs.{needs}
+use Prim.Native.Nat.{ℕ, _<_}
+use borrow.Fn.Kinds.{In}
+use borrow.Fn.PlainCycle.{Measures, is, falls, and}
+use Rattle.walk.proofs.chain.Reads as chain
+use Rattle.walk.proofs.chain.Kinds as chain-kinds
+use Rattle.walk.proofs.+chain+mix+source.Lts-chain as chain-lts
+use Rattle.walk.proofs.mix.Reads as mix
+use Rattle.walk.proofs.mix.Kinds as mix-kinds
+use Rattle.walk.proofs.+chain+mix+source.Lts-mix as mix-lts
+use Rattle.walk.proofs.source.Reads as source
+use Rattle.walk.proofs.source.Kinds as source-kinds
+use Rattle.walk.proofs.+chain+mix+source.Lts-source as source-lts
+use Rattle.walk.proofs.empty.Reads as empty-reads
+use Rattle.walk.proofs.fill_block.Reads as fill-block-reads
+use Rattle.walk.proofs.is_fold.Reads as is-fold-reads
+use Rattle.walk.proofs.kind_at.Reads as kind-at-reads
+use Rattle.walk.proofs.leaf.Reads as leaf-reads
+use Rattle.walk.proofs.scratch_fill.Reads as scratch-fill-reads
+use Rattle.walk.proofs.scratch_join.Reads as scratch-join-reads
+use Rattle.walk.proofs.scratch_take.Reads as scratch-take-reads
+use Rattle.walk.proofs.+chain+mix+source.{statement}
+use Rattle.walk.proofs.+chain+mix+source.Tie.{close}
+
+abbrev μ-chain : Measures 15 chain-kinds.ps ℕ
+μ-chain κs a = 2 * (a .1 .0 - a .1 .1 .1 .1 .1 .1 .1 .1 .1 .0) - 1
+
+abbrev μ-mix : Measures 15 mix-kinds.ps ℕ
+μ-mix κs a = 2 * (a .1 .0 - a .1 .1 .1 .1 .1 .1 .1 .1 .1 .0) - 1
+
+abbrev μ-source : Measures 15 source-kinds.ps ℕ
+μ-source κs a = 2 * (a .1 .0 - a .1 .1 .1 .1 .1 .1 .1 .1 .1 .0)
+
+abbrev chain-at : ℕ → In 15 chain-kinds.ps
+chain-at t = and 15 chain-kinds.ps (is 15 chain-kinds.ps μ-chain t) chain.Pre
+
+abbrev chain-below : ℕ → In 15 chain-kinds.ps
+chain-below t = and 15 chain-kinds.ps (falls 15 chain-kinds.ps _<_ μ-chain t) chain.Pre
+
+abbrev mix-at : ℕ → In 15 mix-kinds.ps
+mix-at t = and 15 mix-kinds.ps (is 15 mix-kinds.ps μ-mix t) mix.Pre
+
+abbrev mix-below : ℕ → In 15 mix-kinds.ps
+mix-below t = and 15 mix-kinds.ps (falls 15 mix-kinds.ps _<_ μ-mix t) mix.Pre
+
+abbrev source-at : ℕ → In 15 source-kinds.ps
+source-at t = and 15 source-kinds.ps (is 15 source-kinds.ps μ-source t) source.Pre
+
+abbrev source-below : ℕ → In 15 source-kinds.ps
+source-below t = and 15 source-kinds.ps (falls 15 source-kinds.ps _<_ μ-source t) source.Pre
+
+abbrev chain-Inv-loop : chain-lts.InvT-loop
+chain-Inv-loop sheet count nexts acts begins afters places words blocks i c out₀ v₀ w₀ pitch cells₀ regs₀ scr₀ j₀ out v w cells regs scr j = Chaining sheet i c out₀ cells₀ regs₀ scr₀ (length v₀) (length w₀) out cells regs scr (length v) (length w) j
+
+abbrev chain-μ-loop : chain-lts.MeasureT-loop
+chain-μ-loop sheet count nexts acts begins afters places words blocks i c out₀ v₀ w₀ pitch cells₀ regs₀ scr₀ j₀ out v w cells regs scr j = left sheet j
+
+-- src/lib.rt:269:17
+chain-mul-j :
+    (t : ℕ) →
+    chain-lts.Need-mul-j
+    (source-below t, source.Post)
+    (chain-at t)
+    chain.Post
+    chain-Inv-loop
+    chain-μ-loop
+chain-mul-j t c = search needs
+
+-- src/lib.rt:269:17
+chain-shared-slice-read-j : (t : ℕ) → chain-lts.Need-shared-slice-read-j (
+  source-below t,
+  source.Post,
+) (chain-at t) chain.Post chain-Inv-loop chain-μ-loop
+chain-shared-slice-read-j t c = search needs
+
+-- src/lib.rt:270:5
+chain-loop-holds :
+    (t : ℕ) →
+    chain-lts.Need-loop-holds
+    (source-below t, source.Post)
+    (chain-at t)
+    chain.Post
+    chain-Inv-loop
+    chain-μ-loop
+chain-loop-holds t c = let s = (c .before .before .before .before .before .before .before .before .before .before .before .before .before .before .before .before) in
+    let R = s .pre .1 .0 in
+    let vo = R .voiced in
+    let S = s .args .sheet .now in
+    let i = s .args .i in
+    let hi = s .pre .1 .3 in
+    let h : i < countOf S = omega (arith, hi, vo .passed .count) in
+    let e = chain-nodes (kind S i) (s .pre .1 .4) in
+    rw (R .begin-at .at i hi) (chain-start vo i h e (s .args .c) _ _ _ _ _ _ (s .pre .1 .2))
+
+-- src/lib.rt:271:9
+chain-source-requires :
+    (t : ℕ) →
+    chain-lts.Need-source-requires
+    (source-below t, source.Post)
+    (chain-at t)
+    chain.Post
+    chain-Inv-loop
+    chain-μ-loop
+chain-source-requires t c κs = let s = (c .before .before .before .before .before .before .before .before .before .before .before .before .before .before .before .before .before .before .before .before .before .before .before .before) in
+    let R = s .pre .1 .0 in
+    let vo = R .voiced in
+    let S = s .args .sheet .now in
+    let i = s .args .i in
+    let hi = s .pre .1 .3 in
+    let h : i < countOf S = omega (arith, hi, vo .passed .count) in
+    let e = chain-nodes (kind S i) (s .pre .1 .4) in
+    let L = (c .before .before .before .before .before .before .before .loop) in
+    let l = L .inv in
+    let t = (c .before .before .before .before .before .before .loop-test) .taken in
+    let hj : L .j < s .args .count = omega (arith, l .inside, vo .passed .count) in
+    (omega (arith, s .pre .0, l .above t, hj), (ready-same R (l .outs) (l .first-buffer) (l .second-buffer), scratch-same (s .pre .1 .1) (l .scr), l .sound, hj, l .member t .is))
+
+-- src/lib.rt:275:13
+chain-mul-j-2 :
+    (t : ℕ) →
+    chain-lts.Need-mul-j-2
+    (source-below t, source.Post)
+    (chain-at t)
+    chain.Post
+    chain-Inv-loop
+    chain-μ-loop
+chain-mul-j-2 t c = let s = (c .before .before .before .before .before .before .before .before .before .before .before .before .before .before .before .before .before .before .before .before .before .before .before .before .before .before .before .before .before .before .before .before .before .before .before .before .before) in
+    let R = s .pre .1 .0 in
+    let vo = R .voiced in
+    let S = s .args .sheet .now in
+    let i = s .args .i in
+    let hi = s .pre .1 .3 in
+    let h : i < countOf S = omega (arith, hi, vo .passed .count) in
+    let e = chain-nodes (kind S i) (s .pre .1 .4) in
+    let L = (c .before .before .before .before .before .before .before .before .before .before .before .before .before .before .before .before .before .before .before .before .loop) in
+    let l = L .inv in
+    let t = (c .before .before .before .before .before .before .before .before .before .before .before .before .before .before .before .before .before .before .before .loop-test) .taken in
+    let hj : L .j < s .args .count = omega (arith, l .inside, vo .passed .count) in
+    omega (arith, hj, R .after-at .long)
+
+-- src/lib.rt:275:13
+chain-shared-slice-read-j-2 : (t : ℕ) → chain-lts.Need-shared-slice-read-j-2 (
+  source-below t,
+  source.Post,
+) (chain-at t) chain.Post chain-Inv-loop chain-μ-loop
+chain-shared-slice-read-j-2 t c = let s = (c .before .before .before .before .before .before .before .before .before .before .before .before .before .before .before .before .before .before .before .before .before .before .before .before .before .before .before .before .before .before .before .before .before .before .before .before .before .before) in
+    let R = s .pre .1 .0 in
+    let vo = R .voiced in
+    let S = s .args .sheet .now in
+    let i = s .args .i in
+    let hi = s .pre .1 .3 in
+    let h : i < countOf S = omega (arith, hi, vo .passed .count) in
+    let e = chain-nodes (kind S i) (s .pre .1 .4) in
+    let L = (c .before .before .before .before .before .before .before .before .before .before .before .before .before .before .before .before .before .before .before .before .before .loop) in
+    let l = L .inv in
+    let t = (c .before .before .before .before .before .before .before .before .before .before .before .before .before .before .before .before .before .before .before .before .loop-test) .taken in
+    let hj : L .j < s .args .count = omega (arith, l .inside, vo .passed .count) in
+    omega (arith, hj, R .after-at .long)
+
+-- src/lib.rt:270:5
+chain-loop-less :
+    (t : ℕ) →
+    chain-lts.Need-loop-less
+    (source-below t, source.Post)
+    (chain-at t)
+    chain.Post
+    chain-Inv-loop
+    chain-μ-loop
+chain-loop-less t c = let s = (c .before .before .before .before .before .before .before .before .before .before .before .before .before .before .before .before .before .before .before .before .before .before .before .before .before .before .before .before .before .before .before .before .before .before .before .before .before .before) in
+    let R = s .pre .1 .0 in
+    let vo = R .voiced in
+    let S = s .args .sheet .now in
+    let i = s .args .i in
+    let hi = s .pre .1 .3 in
+    let h : i < countOf S = omega (arith, hi, vo .passed .count) in
+    let e = chain-nodes (kind S i) (s .pre .1 .4) in
+    let L = (c .before .before .before .before .before .before .before .before .before .before .before .before .before .before .before .before .before .before .before .before .before .loop) in
+    let l = L .inv in
+    let t = (c .before .before .before .before .before .before .before .before .before .before .before .before .before .before .before .before .before .before .before .before .loop-test) .taken in
+    let hj : L .j < s .args .count = omega (arith, l .inside, vo .passed .count) in
+    rw (R .after-at .at (L .j) hj) (left-less (vo .passed) (L .j) t (l .inside))
+
+-- src/lib.rt:270:5
+chain-loop-again :
+    (t : ℕ) →
+    chain-lts.Need-loop-again
+    (source-below t, source.Post)
+    (chain-at t)
+    chain.Post
+    chain-Inv-loop
+    chain-μ-loop
+chain-loop-again t c = let s = (c .before .before .before .before .before .before .before .before .before .before .before .before .before .before .before .before .before .before .before .before .before .before .before .before .before .before .before .before .before .before .before .before .before .before .before .before .before .before) in
+    let R = s .pre .1 .0 in
+    let vo = R .voiced in
+    let S = s .args .sheet .now in
+    let i = s .args .i in
+    let hi = s .pre .1 .3 in
+    let h : i < countOf S = omega (arith, hi, vo .passed .count) in
+    let e = chain-nodes (kind S i) (s .pre .1 .4) in
+    let L = (c .before .before .before .before .before .before .before .before .before .before .before .before .before .before .before .before .before .before .before .before .before .loop) in
+    let l = L .inv in
+    let t = (c .before .before .before .before .before .before .before .before .before .before .before .before .before .before .before .before .before .before .before .before .loop-test) .taken in
+    let hj : L .j < s .args .count = omega (arith, l .inside, vo .passed .count) in
+    rw (R .after-at .at (L .j) hj) (chain-again vo i h e (s .args .c) _ _ _ _ _ _ _ _ _ _ _ _ (L .j) _ _ _ _ _ _ l t ((c .before .before .before .before .before .before .before .before .before .before .before .before .before .source) .ensures) ((c .before .before .before .before .before .before .before .before .before .before .before .before .before .source) .kept .1 .1 .1 .1 .1 .1 .1 .1 .1 .1 .1 .0) ((c .before .before .before .before .before .before .before .before .before .before .before .before .before .source) .kept .1 .1 .1 .1 .1 .1 .1 .1 .1 .1 .1 .1 .1 .1 .1 .0) ((c .before .before .before .before .before .before .before .before .before .before .before .before .before .source) .kept .1 .1 .1 .1 .1 .1 .1 .1 .1 .1 .1 .1 .1 .1 .1 .1 .0) ((c .before .before .before .before .before .before .before .before .before .before .before .before .before .source) .kept .1 .1 .1 .1 .1 .1 .1 .1 .1 .1 .1 .1 .1 .1 .1 .1 .1 .0) ((c .before .before .before .before .before .before .before .before .before .before .before .before .before .source) .kept .1 .1 .1 .1 .1 .1 .1 .1 .1 .1 .1 .1 .0) ((c .before .before .before .before .before .before .before .before .before .before .before .before .before .source) .kept .1 .1 .1 .1 .1 .1 .1 .1 .1 .1 .1 .1 .1 .0))
+
+-- src/lib.rt:246:1
+chain-same-length :
+    (t : ℕ) →
+    chain-lts.Need-same-length
+    (source-below t, source.Post)
+    (chain-at t)
+    chain.Post
+    chain-Inv-loop
+    chain-μ-loop
+chain-same-length t c = search needs
+
+-- src/lib.rt:246:1
+chain-same-length-2 :
+    (t : ℕ) →
+    chain-lts.Need-same-length-2
+    (source-below t, source.Post)
+    (chain-at t)
+    chain.Post
+    chain-Inv-loop
+    chain-μ-loop
+chain-same-length-2 t c = search needs
+
+-- src/lib.rt:246:1
+chain-same-length-3 :
+    (t : ℕ) →
+    chain-lts.Need-same-length-3
+    (source-below t, source.Post)
+    (chain-at t)
+    chain.Post
+    chain-Inv-loop
+    chain-μ-loop
+chain-same-length-3 t c = search needs
+
+-- src/lib.rt:246:1
+chain-same-length-4 :
+    (t : ℕ) →
+    chain-lts.Need-same-length-4
+    (source-below t, source.Post)
+    (chain-at t)
+    chain.Post
+    chain-Inv-loop
+    chain-μ-loop
+chain-same-length-4 t c = search needs
+
+-- src/lib.rt:246:1
+chain-same-length-5 :
+    (t : ℕ) →
+    chain-lts.Need-same-length-5
+    (source-below t, source.Post)
+    (chain-at t)
+    chain.Post
+    chain-Inv-loop
+    chain-μ-loop
+chain-same-length-5 t c = search needs
+
+-- src/lib.rt:246:1
+chain-same-length-6 :
+    (t : ℕ) →
+    chain-lts.Need-same-length-6
+    (source-below t, source.Post)
+    (chain-at t)
+    chain.Post
+    chain-Inv-loop
+    chain-μ-loop
+chain-same-length-6 t c = search needs
+
+-- src/lib.rt:246:1
+chain-returns :
+    (t : ℕ) →
+    chain-lts.Need-returns
+    (source-below t, source.Post)
+    (chain-at t)
+    chain.Post
+    chain-Inv-loop
+    chain-μ-loop
+chain-returns t c = let s = (c .before .before .before .before .before .before .before .before .before .before .before .before .before .before .before .before .before .before) in
+    let R = s .pre .1 .0 in
+    let vo = R .voiced in
+    let S = s .args .sheet .now in
+    let i = s .args .i in
+    let hi = s .pre .1 .3 in
+    let h : i < countOf S = omega (arith, hi, vo .passed .count) in
+    let e = chain-nodes (kind S i) (s .pre .1 .4) in
+    chain-end vo i (s .args .c) _ _ _ _ _ _ _ _ _ _ _ _ ((c .before .loop) .j) e ((c .before .loop) .inv) ((c .loop-test) .left)
+
+abbrev mix-Inv-loop : mix-lts.InvT-loop
+mix-Inv-loop sheet count nexts acts begins afters places words blocks i c out₀ v₀ w₀ pitch cells₀ regs₀ scr₀ k at j₀ out v w cells regs scr j = (k ≡ kind sheet i) × (at ≡ scratchFrom sheet i) × Mixing sheet i c out₀ cells₀ regs₀ scr₀ (length v₀) (length w₀) out cells regs scr (length v) (length w) j
+
+abbrev mix-μ-loop : mix-lts.MeasureT-loop
+mix-μ-loop sheet count nexts acts begins afters places words blocks i c out₀ v₀ w₀ pitch cells₀ regs₀ scr₀ k at j₀ out v w cells regs scr j = left sheet j
+
+-- src/lib.rt:303:9
+mix-kind-at-requires : (t : ℕ) → mix-lts.Need-kind-at-requires (
+  kind-at-reads.Asked,
+  kind-at-reads.Learnt,
+  fill-block-reads.Asked,
+  fill-block-reads.Learnt,
+  source-below t,
+  source.Post,
+  scratch-join-reads.Asked,
+  scratch-join-reads.Learnt,
+) (mix-at t) mix.Post mix-Inv-loop mix-μ-loop
+mix-kind-at-requires t c κs = let s = (c .before .before .before .before .before .before .before .before .before .before .before .before .before .before .before) in
+    let R = s .pre .1 .0 in
+    let vo = R .voiced in
+    let S = s .args .sheet .now in
+    let i = s .args .i in
+    let hi = s .pre .1 .3 in
+    let h : i < countOf S = omega (arith, hi, vo .passed .count) in
+    (h, omega (arith, vo .passed .count, vo .passed .small), omega (arith, vo .passed .count, vo .passed .long))
+
+-- src/lib.rt:304:14
+mix-mul-at : (t : ℕ) → mix-lts.Need-mul-at (
+  kind-at-reads.Asked,
+  kind-at-reads.Learnt,
+  fill-block-reads.Asked,
+  fill-block-reads.Learnt,
+  source-below t,
+  source.Post,
+  scratch-join-reads.Asked,
+  scratch-join-reads.Learnt,
+) (mix-at t) mix.Post mix-Inv-loop mix-μ-loop
+mix-mul-at t c = search needs
+
+-- src/lib.rt:304:14
+mix-shared-slice-read-at : (t : ℕ) → mix-lts.Need-shared-slice-read-at (
+  kind-at-reads.Asked,
+  kind-at-reads.Learnt,
+  fill-block-reads.Asked,
+  fill-block-reads.Learnt,
+  source-below t,
+  source.Post,
+  scratch-join-reads.Asked,
+  scratch-join-reads.Learnt,
+) (mix-at t) mix.Post mix-Inv-loop mix-μ-loop
+mix-shared-slice-read-at t c = search needs
+
+-- src/lib.rt:305:17
+mix-mul-j : (t : ℕ) → mix-lts.Need-mul-j (
+  kind-at-reads.Asked,
+  kind-at-reads.Learnt,
+  fill-block-reads.Asked,
+  fill-block-reads.Learnt,
+  source-below t,
+  source.Post,
+  scratch-join-reads.Asked,
+  scratch-join-reads.Learnt,
+) (mix-at t) mix.Post mix-Inv-loop mix-μ-loop
+mix-mul-j t c = search needs
+
+-- src/lib.rt:305:17
+mix-shared-slice-read-j : (t : ℕ) → mix-lts.Need-shared-slice-read-j (
+  kind-at-reads.Asked,
+  kind-at-reads.Learnt,
+  fill-block-reads.Asked,
+  fill-block-reads.Learnt,
+  source-below t,
+  source.Post,
+  scratch-join-reads.Asked,
+  scratch-join-reads.Learnt,
+) (mix-at t) mix.Post mix-Inv-loop mix-μ-loop
+mix-shared-slice-read-j t c = search needs
+
+-- src/lib.rt:306:5
+mix-loop-holds : (t : ℕ) → mix-lts.Need-loop-holds (
+  kind-at-reads.Asked,
+  kind-at-reads.Learnt,
+  fill-block-reads.Asked,
+  fill-block-reads.Learnt,
+  source-below t,
+  source.Post,
+  scratch-join-reads.Asked,
+  scratch-join-reads.Learnt,
+) (mix-at t) mix.Post mix-Inv-loop mix-μ-loop
+mix-loop-holds t c = let s = (c .before .before .before .before .before .before .before .before .before .before .before .before .before .before .before .before .before .before) in
+    let R = s .pre .1 .0 in
+    let vo = R .voiced in
+    let S = s .args .sheet .now in
+    let i = s .args .i in
+    let hi = s .pre .1 .3 in
+    let h : i < countOf S = omega (arith, hi, vo .passed .count) in
+    let e = fold-nodes (kind S i) (s .pre .1 .4) in
+    ((c .before .before .kind-at) .ensures, s .pre .1 .1 .scratch-at .at i (omega (arith, hi)), rw (R .begin-at .at i hi) (mix-start vo i h e (s .args .c) _ _ _ _ _ _ (s .pre .1 .2)))
+
+-- src/lib.rt:307:9
+mix-fill-block-requires : (t : ℕ) → mix-lts.Need-fill-block-requires (
+  kind-at-reads.Asked,
+  kind-at-reads.Learnt,
+  fill-block-reads.Asked,
+  fill-block-reads.Learnt,
+  source-below t,
+  source.Post,
+  scratch-join-reads.Asked,
+  scratch-join-reads.Learnt,
+) (mix-at t) mix.Post mix-Inv-loop mix-μ-loop
+mix-fill-block-requires t c κs = search needs
+
+-- src/lib.rt:308:9
+mix-source-requires : (t : ℕ) → mix-lts.Need-source-requires (
+  kind-at-reads.Asked,
+  kind-at-reads.Learnt,
+  fill-block-reads.Asked,
+  fill-block-reads.Learnt,
+  source-below t,
+  source.Post,
+  scratch-join-reads.Asked,
+  scratch-join-reads.Learnt,
+) (mix-at t) mix.Post mix-Inv-loop mix-μ-loop
+mix-source-requires t c κs = let s = (c .before .before .before .before .before .before .before .before .before .before .before .before .before .before .before .before .before .before .before .before .before .before .before .before .before .before .before .before .before .before) in
+    let R = s .pre .1 .0 in
+    let vo = R .voiced in
+    let S = s .args .sheet .now in
+    let i = s .args .i in
+    let hi = s .pre .1 .3 in
+    let h : i < countOf S = omega (arith, hi, vo .passed .count) in
+    let e = fold-nodes (kind S i) (s .pre .1 .4) in
+    let L = (c .before .before .before .before .before .before .before .before .before .before .before .loop) in
+    let l = L .inv .2 in
+    let t = (c .before .before .before .before .before .before .before .before .before .before .loop-test) .taken in
+    let hj : L .j < s .args .count = omega (arith, l .inside, vo .passed .count) in
+    (omega (arith, s .pre .0, l .above t, hj), (ready-same R ((c .before .before .before .before .before .before .before .before .fill-block) .kept .0 ∙ l .outs) (l .first-buffer) (l .second-buffer), scratch-same (s .pre .1 .1) (l .scr), l .sound, hj, l .member t .is))
+
+-- src/lib.rt:312:9
+mix-scratch-join-requires : (t : ℕ) → mix-lts.Need-scratch-join-requires (
+  kind-at-reads.Asked,
+  kind-at-reads.Learnt,
+  fill-block-reads.Asked,
+  fill-block-reads.Learnt,
+  source-below t,
+  source.Post,
+  scratch-join-reads.Asked,
+  scratch-join-reads.Learnt,
+) (mix-at t) mix.Post mix-Inv-loop mix-μ-loop
+mix-scratch-join-requires t c κs = let s = (c .before .before .before .before .before .before .before .before .before .before .before .before .before .before .before .before .before .before .before .before .before .before .before .before .before .before .before .before .before .before .before .before .before .before .before .before .before .before .before .before .before .before .before .before .before) in
+    let R = s .pre .1 .0 in
+    let vo = R .voiced in
+    let S = s .args .sheet .now in
+    let i = s .args .i in
+    let hi = s .pre .1 .3 in
+    let h : i < countOf S = omega (arith, hi, vo .passed .count) in
+    let e = fold-nodes (kind S i) (s .pre .1 .4) in
+    let L = (c .before .before .before .before .before .before .before .before .before .before .before .before .before .before .before .before .before .before .before .before .before .before .before .before .before .before .loop) in
+    let l = L .inv .2 in
+    let t = (c .before .before .before .before .before .before .before .before .before .before .before .before .before .before .before .before .before .before .before .before .before .before .before .before .before .loop-test) .taken in
+    let hj : L .j < s .args .count = omega (arith, l .inside, vo .passed .count) in
+    omega (arith, playable S (vo .passed .passed) .scratch-end i h, L .inv .1, s .pre .1 .1 .room, R .short, s .pre .1 .5, l .scr, l .outs, (c .before .before .before .before .before .before .before .before .before .before .before .before .before .before .source) .kept .1 .1 .1 .1 .1 .1 .1 .1 .1 .1 .1 .1 .1 .1 .1 .1 .1 .0, (c .before .before .before .before .before .before .before .before .before .before .before .before .before .before .source) .kept .1 .1 .1 .1 .1 .1 .1 .1 .1 .1 .1 .0, (c .before .before .before .before .before .before .before .before .before .before .before .before .before .before .before .before .before .before .before .before .before .before .before .fill-block) .kept .0)
+
+-- src/lib.rt:313:13
+mix-mul-j-2 : (t : ℕ) → mix-lts.Need-mul-j-2 (
+  kind-at-reads.Asked,
+  kind-at-reads.Learnt,
+  fill-block-reads.Asked,
+  fill-block-reads.Learnt,
+  source-below t,
+  source.Post,
+  scratch-join-reads.Asked,
+  scratch-join-reads.Learnt,
+) (mix-at t) mix.Post mix-Inv-loop mix-μ-loop
+mix-mul-j-2 t c = let s = (c .before .before .before .before .before .before .before .before .before .before .before .before .before .before .before .before .before .before .before .before .before .before .before .before .before .before .before .before .before .before .before .before .before .before .before .before .before .before .before .before .before .before .before .before .before .before .before .before) in
+    let R = s .pre .1 .0 in
+    let vo = R .voiced in
+    let S = s .args .sheet .now in
+    let i = s .args .i in
+    let hi = s .pre .1 .3 in
+    let h : i < countOf S = omega (arith, hi, vo .passed .count) in
+    let e = fold-nodes (kind S i) (s .pre .1 .4) in
+    let L = (c .before .before .before .before .before .before .before .before .before .before .before .before .before .before .before .before .before .before .before .before .before .before .before .before .before .before .before .before .before .loop) in
+    let l = L .inv .2 in
+    let t = (c .before .before .before .before .before .before .before .before .before .before .before .before .before .before .before .before .before .before .before .before .before .before .before .before .before .before .before .before .loop-test) .taken in
+    let hj : L .j < s .args .count = omega (arith, l .inside, vo .passed .count) in
+    omega (arith, hj, R .after-at .long)
+
+-- src/lib.rt:313:13
+mix-shared-slice-read-j-2 : (t : ℕ) → mix-lts.Need-shared-slice-read-j-2 (
+  kind-at-reads.Asked,
+  kind-at-reads.Learnt,
+  fill-block-reads.Asked,
+  fill-block-reads.Learnt,
+  source-below t,
+  source.Post,
+  scratch-join-reads.Asked,
+  scratch-join-reads.Learnt,
+) (mix-at t) mix.Post mix-Inv-loop mix-μ-loop
+mix-shared-slice-read-j-2 t c = let s = (c .before .before .before .before .before .before .before .before .before .before .before .before .before .before .before .before .before .before .before .before .before .before .before .before .before .before .before .before .before .before .before .before .before .before .before .before .before .before .before .before .before .before .before .before .before .before .before .before .before) in
+    let R = s .pre .1 .0 in
+    let vo = R .voiced in
+    let S = s .args .sheet .now in
+    let i = s .args .i in
+    let hi = s .pre .1 .3 in
+    let h : i < countOf S = omega (arith, hi, vo .passed .count) in
+    let e = fold-nodes (kind S i) (s .pre .1 .4) in
+    let L = (c .before .before .before .before .before .before .before .before .before .before .before .before .before .before .before .before .before .before .before .before .before .before .before .before .before .before .before .before .before .before .loop) in
+    let l = L .inv .2 in
+    let t = (c .before .before .before .before .before .before .before .before .before .before .before .before .before .before .before .before .before .before .before .before .before .before .before .before .before .before .before .before .before .loop-test) .taken in
+    let hj : L .j < s .args .count = omega (arith, l .inside, vo .passed .count) in
+    omega (arith, hj, R .after-at .long)
+
+-- src/lib.rt:306:5
+mix-loop-less : (t : ℕ) → mix-lts.Need-loop-less (
+  kind-at-reads.Asked,
+  kind-at-reads.Learnt,
+  fill-block-reads.Asked,
+  fill-block-reads.Learnt,
+  source-below t,
+  source.Post,
+  scratch-join-reads.Asked,
+  scratch-join-reads.Learnt,
+) (mix-at t) mix.Post mix-Inv-loop mix-μ-loop
+mix-loop-less t c = let s = (c .before .before .before .before .before .before .before .before .before .before .before .before .before .before .before .before .before .before .before .before .before .before .before .before .before .before .before .before .before .before .before .before .before .before .before .before .before .before .before .before .before .before .before .before .before .before .before .before .before) in
+    let R = s .pre .1 .0 in
+    let vo = R .voiced in
+    let S = s .args .sheet .now in
+    let i = s .args .i in
+    let hi = s .pre .1 .3 in
+    let h : i < countOf S = omega (arith, hi, vo .passed .count) in
+    let e = fold-nodes (kind S i) (s .pre .1 .4) in
+    let L = (c .before .before .before .before .before .before .before .before .before .before .before .before .before .before .before .before .before .before .before .before .before .before .before .before .before .before .before .before .before .before .loop) in
+    let l = L .inv .2 in
+    let t = (c .before .before .before .before .before .before .before .before .before .before .before .before .before .before .before .before .before .before .before .before .before .before .before .before .before .before .before .before .before .loop-test) .taken in
+    let hj : L .j < s .args .count = omega (arith, l .inside, vo .passed .count) in
+    rw (R .after-at .at (L .j) hj) (left-less (vo .passed) (L .j) t (l .inside))
+
+-- src/lib.rt:306:5
+mix-loop-again : (t : ℕ) → mix-lts.Need-loop-again (
+  kind-at-reads.Asked,
+  kind-at-reads.Learnt,
+  fill-block-reads.Asked,
+  fill-block-reads.Learnt,
+  source-below t,
+  source.Post,
+  scratch-join-reads.Asked,
+  scratch-join-reads.Learnt,
+) (mix-at t) mix.Post mix-Inv-loop mix-μ-loop
+mix-loop-again t c = let s = (c .before .before .before .before .before .before .before .before .before .before .before .before .before .before .before .before .before .before .before .before .before .before .before .before .before .before .before .before .before .before .before .before .before .before .before .before .before .before .before .before .before .before .before .before .before .before .before .before .before) in
+    let R = s .pre .1 .0 in
+    let vo = R .voiced in
+    let S = s .args .sheet .now in
+    let i = s .args .i in
+    let hi = s .pre .1 .3 in
+    let h : i < countOf S = omega (arith, hi, vo .passed .count) in
+    let e = fold-nodes (kind S i) (s .pre .1 .4) in
+    let L = (c .before .before .before .before .before .before .before .before .before .before .before .before .before .before .before .before .before .before .before .before .before .before .before .before .before .before .before .before .before .before .loop) in
+    let l = L .inv .2 in
+    let t = (c .before .before .before .before .before .before .before .before .before .before .before .before .before .before .before .before .before .before .before .before .before .before .before .before .before .before .before .before .before .loop-test) .taken in
+    let hj : L .j < s .args .count = omega (arith, l .inside, vo .passed .count) in
+    (L .inv .0, L .inv .1, rw (R .after-at .at (L .j) hj) (mix-again vo i h e (s .args .c) _ _ _ _ _ _ _ _ _ _ _ _ (L .j) _ _ _ _ _ _ _ (s .pre .1 .5) (R .short) (s .pre .1 .1 .room) l t (rw ((c .before .before .before .before .before .before .before .before .before .before .before .before .before .before .before .before .before .before .before .before .before .before .before .before .before .before .before .fill-block) .ensures) at ((c .before .before .before .before .before .before .before .before .before .before .before .before .before .before .before .before .before .before .source) .ensures)) (rw (L .inv .0, L .inv .1) at ((c .before .before .before .scratch-join) .ensures)) ((c .before .before .before .before .before .before .before .before .before .before .before .before .before .before .before .before .before .before .source) .kept .1 .1 .1 .1 .1 .1 .1 .1 .1 .1 .1 .0 ∙ (c .before .before .before .before .before .before .before .before .before .before .before .before .before .before .before .before .before .before .before .before .before .before .before .before .before .before .before .fill-block) .kept .0) ((c .before .before .before .before .before .before .before .before .before .before .before .before .before .before .before .before .before .before .source) .kept .1 .1 .1 .1 .1 .1 .1 .1 .1 .1 .1 .1 .1 .1 .1 .0) ((c .before .before .before .before .before .before .before .before .before .before .before .before .before .before .before .before .before .before .source) .kept .1 .1 .1 .1 .1 .1 .1 .1 .1 .1 .1 .1 .1 .1 .1 .1 .0) ((c .before .before .before .before .before .before .before .before .before .before .before .before .before .before .before .before .before .before .source) .kept .1 .1 .1 .1 .1 .1 .1 .1 .1 .1 .1 .1 .1 .1 .1 .1 .1 .0) ((c .before .before .before .scratch-join) .kept .1 .0) ((c .before .before .before .before .before .before .before .before .before .before .before .before .before .before .before .before .before .before .source) .kept .1 .1 .1 .1 .1 .1 .1 .1 .1 .1 .1 .1 .0) ((c .before .before .before .before .before .before .before .before .before .before .before .before .before .before .before .before .before .before .source) .kept .1 .1 .1 .1 .1 .1 .1 .1 .1 .1 .1 .1 .1 .0)))
+
+-- src/lib.rt:280:1
+mix-same-length : (t : ℕ) → mix-lts.Need-same-length (
+  kind-at-reads.Asked,
+  kind-at-reads.Learnt,
+  fill-block-reads.Asked,
+  fill-block-reads.Learnt,
+  source-below t,
+  source.Post,
+  scratch-join-reads.Asked,
+  scratch-join-reads.Learnt,
+) (mix-at t) mix.Post mix-Inv-loop mix-μ-loop
+mix-same-length t c = search needs
+
+-- src/lib.rt:280:1
+mix-same-length-2 : (t : ℕ) → mix-lts.Need-same-length-2 (
+  kind-at-reads.Asked,
+  kind-at-reads.Learnt,
+  fill-block-reads.Asked,
+  fill-block-reads.Learnt,
+  source-below t,
+  source.Post,
+  scratch-join-reads.Asked,
+  scratch-join-reads.Learnt,
+) (mix-at t) mix.Post mix-Inv-loop mix-μ-loop
+mix-same-length-2 t c = search needs
+
+-- src/lib.rt:280:1
+mix-same-length-3 : (t : ℕ) → mix-lts.Need-same-length-3 (
+  kind-at-reads.Asked,
+  kind-at-reads.Learnt,
+  fill-block-reads.Asked,
+  fill-block-reads.Learnt,
+  source-below t,
+  source.Post,
+  scratch-join-reads.Asked,
+  scratch-join-reads.Learnt,
+) (mix-at t) mix.Post mix-Inv-loop mix-μ-loop
+mix-same-length-3 t c = search needs
+
+-- src/lib.rt:280:1
+mix-same-length-4 : (t : ℕ) → mix-lts.Need-same-length-4 (
+  kind-at-reads.Asked,
+  kind-at-reads.Learnt,
+  fill-block-reads.Asked,
+  fill-block-reads.Learnt,
+  source-below t,
+  source.Post,
+  scratch-join-reads.Asked,
+  scratch-join-reads.Learnt,
+) (mix-at t) mix.Post mix-Inv-loop mix-μ-loop
+mix-same-length-4 t c = search needs
+
+-- src/lib.rt:280:1
+mix-same-length-5 : (t : ℕ) → mix-lts.Need-same-length-5 (
+  kind-at-reads.Asked,
+  kind-at-reads.Learnt,
+  fill-block-reads.Asked,
+  fill-block-reads.Learnt,
+  source-below t,
+  source.Post,
+  scratch-join-reads.Asked,
+  scratch-join-reads.Learnt,
+) (mix-at t) mix.Post mix-Inv-loop mix-μ-loop
+mix-same-length-5 t c = search needs
+
+-- src/lib.rt:280:1
+mix-same-length-6 : (t : ℕ) → mix-lts.Need-same-length-6 (
+  kind-at-reads.Asked,
+  kind-at-reads.Learnt,
+  fill-block-reads.Asked,
+  fill-block-reads.Learnt,
+  source-below t,
+  source.Post,
+  scratch-join-reads.Asked,
+  scratch-join-reads.Learnt,
+) (mix-at t) mix.Post mix-Inv-loop mix-μ-loop
+mix-same-length-6 t c = search needs
+
+-- src/lib.rt:280:1
+mix-returns : (t : ℕ) → mix-lts.Need-returns (
+  kind-at-reads.Asked,
+  kind-at-reads.Learnt,
+  fill-block-reads.Asked,
+  fill-block-reads.Learnt,
+  source-below t,
+  source.Post,
+  scratch-join-reads.Asked,
+  scratch-join-reads.Learnt,
+) (mix-at t) mix.Post mix-Inv-loop mix-μ-loop
+mix-returns t c = let s = (c .before .before .before .before .before .before .before .before .before .before .before .before .before .before .before .before .before .before .before .before) in
+    let R = s .pre .1 .0 in
+    let vo = R .voiced in
+    let S = s .args .sheet .now in
+    let i = s .args .i in
+    let hi = s .pre .1 .3 in
+    let h : i < countOf S = omega (arith, hi, vo .passed .count) in
+    let e = fold-nodes (kind S i) (s .pre .1 .4) in
+    mix-end vo i (s .args .c) _ _ _ _ _ _ _ _ _ _ _ _ ((c .before .loop) .j) e ((c .before .loop) .inv .2) ((c .loop-test) .left)
+
+-- src/lib.rt:222:9
+source-kind-at-requires : (t : ℕ) → source-lts.Need-kind-at-requires (
+  kind-at-reads.Asked,
+  kind-at-reads.Learnt,
+  is-fold-reads.Asked,
+  is-fold-reads.Learnt,
+  empty-reads.Asked,
+  empty-reads.Learnt,
+  scratch-fill-reads.Asked,
+  scratch-fill-reads.Learnt,
+  mix-below t,
+  mix.Post,
+  scratch-take-reads.Asked,
+  scratch-take-reads.Learnt,
+  chain-below t,
+  chain.Post,
+  leaf-reads.Asked,
+  leaf-reads.Learnt,
+) (source-at t) source.Post
+source-kind-at-requires t c κs = let s = (c .before .before .before .before .before .before .before .before .before .before .before .before .before .before .before) in
+    let R = s .pre .1 .0 in
+    let vo = R .voiced in
+    let S = s .args .sheet .now in
+    let i = s .args .i in
+    let hi = s .pre .1 .3 in
+    let h : i < countOf S = omega (arith, hi, vo .passed .count) in
+    (h, omega (arith, vo .passed .count, vo .passed .small), omega (arith, vo .passed .count, vo .passed .long))
+
+-- src/lib.rt:223:8
+source-is-fold-requires : (t : ℕ) → source-lts.Need-is-fold-requires (
+  kind-at-reads.Asked,
+  kind-at-reads.Learnt,
+  is-fold-reads.Asked,
+  is-fold-reads.Learnt,
+  empty-reads.Asked,
+  empty-reads.Learnt,
+  scratch-fill-reads.Asked,
+  scratch-fill-reads.Learnt,
+  mix-below t,
+  mix.Post,
+  scratch-take-reads.Asked,
+  scratch-take-reads.Learnt,
+  chain-below t,
+  chain.Post,
+  leaf-reads.Asked,
+  leaf-reads.Learnt,
+) (source-at t) source.Post
+source-is-fold-requires t c κs = search needs
+
+-- src/lib.rt:224:18
+source-mul-at : (t : ℕ) → source-lts.Need-mul-at (
+  kind-at-reads.Asked,
+  kind-at-reads.Learnt,
+  is-fold-reads.Asked,
+  is-fold-reads.Learnt,
+  empty-reads.Asked,
+  empty-reads.Learnt,
+  scratch-fill-reads.Asked,
+  scratch-fill-reads.Learnt,
+  mix-below t,
+  mix.Post,
+  scratch-take-reads.Asked,
+  scratch-take-reads.Learnt,
+  chain-below t,
+  chain.Post,
+  leaf-reads.Asked,
+  leaf-reads.Learnt,
+) (source-at t) source.Post
+source-mul-at t c = search needs
+
+-- src/lib.rt:224:18
+source-shared-slice-read-at : (t : ℕ) → source-lts.Need-shared-slice-read-at (
+  kind-at-reads.Asked,
+  kind-at-reads.Learnt,
+  is-fold-reads.Asked,
+  is-fold-reads.Learnt,
+  empty-reads.Asked,
+  empty-reads.Learnt,
+  scratch-fill-reads.Asked,
+  scratch-fill-reads.Learnt,
+  mix-below t,
+  mix.Post,
+  scratch-take-reads.Asked,
+  scratch-take-reads.Learnt,
+  chain-below t,
+  chain.Post,
+  leaf-reads.Asked,
+  leaf-reads.Learnt,
+) (source-at t) source.Post
+source-shared-slice-read-at t c = search needs
+
+-- src/lib.rt:225:42
+source-empty-requires : (t : ℕ) → source-lts.Need-empty-requires (
+  kind-at-reads.Asked,
+  kind-at-reads.Learnt,
+  is-fold-reads.Asked,
+  is-fold-reads.Learnt,
+  empty-reads.Asked,
+  empty-reads.Learnt,
+  scratch-fill-reads.Asked,
+  scratch-fill-reads.Learnt,
+  mix-below t,
+  mix.Post,
+  scratch-take-reads.Asked,
+  scratch-take-reads.Learnt,
+  chain-below t,
+  chain.Post,
+  leaf-reads.Asked,
+  leaf-reads.Learnt,
+) (source-at t) source.Post
+source-empty-requires t c κs = search needs
+
+-- src/lib.rt:225:9
+source-scratch-fill-requires : (t : ℕ) → source-lts.Need-scratch-fill-requires (
+  kind-at-reads.Asked,
+  kind-at-reads.Learnt,
+  is-fold-reads.Asked,
+  is-fold-reads.Learnt,
+  empty-reads.Asked,
+  empty-reads.Learnt,
+  scratch-fill-reads.Asked,
+  scratch-fill-reads.Learnt,
+  mix-below t,
+  mix.Post,
+  scratch-take-reads.Asked,
+  scratch-take-reads.Learnt,
+  chain-below t,
+  chain.Post,
+  leaf-reads.Asked,
+  leaf-reads.Learnt,
+) (source-at t) source.Post
+source-scratch-fill-requires t c κs = let s = (c .before .before .before .before .before .before .before .before .before .before .before .before .before .before .before .before .before .before .before .before .before) in
+    let R = s .pre .1 .0 in
+    let vo = R .voiced in
+    let S = s .args .sheet .now in
+    let i = s .args .i in
+    let hi = s .pre .1 .3 in
+    let h : i < countOf S = omega (arith, hi, vo .passed .count) in
+    let f = ap isFold (sym ((c .before .before .before .before .before .kind-at) .ensures)) ∙ sym ((c .before .before .before .before .is-fold) .ensures) ∙ (c .before .before .before .if1) .taken in
+    let need = fold-scratch S (good S (vo .passed .passed)) i h (s .pre .1 .4) f in
+    let ea = s .pre .1 .1 .scratch-at .at i (omega (arith, hi)) in
+    omega (arith, playable S (vo .passed .passed) .scratch-end i h, ea, s .pre .1 .1 .room, R .short, need)
+
+-- src/lib.rt:226:9
+source-mix-requires : (t : ℕ) → source-lts.Need-mix-requires (
+  kind-at-reads.Asked,
+  kind-at-reads.Learnt,
+  is-fold-reads.Asked,
+  is-fold-reads.Learnt,
+  empty-reads.Asked,
+  empty-reads.Learnt,
+  scratch-fill-reads.Asked,
+  scratch-fill-reads.Learnt,
+  mix-below t,
+  mix.Post,
+  scratch-take-reads.Asked,
+  scratch-take-reads.Learnt,
+  chain-below t,
+  chain.Post,
+  leaf-reads.Asked,
+  leaf-reads.Learnt,
+) (source-at t) source.Post
+source-mix-requires t c κs = let s = (c .before .before .before .before .before .before .before .before .before .before .before .before .before .before .before .before .before .before .before .before .before .before .before .before .before .before .before .before .before .before) in
+    let R = s .pre .1 .0 in
+    let vo = R .voiced in
+    let S = s .args .sheet .now in
+    let i = s .args .i in
+    let hi = s .pre .1 .3 in
+    let h : i < countOf S = omega (arith, hi, vo .passed .count) in
+    let f = ap isFold (sym ((c .before .before .before .before .before .before .before .before .before .before .before .before .before .before .kind-at) .ensures)) ∙ sym ((c .before .before .before .before .before .before .before .before .before .before .before .before .before .is-fold) .ensures) ∙ (c .before .before .before .before .before .before .before .before .before .before .before .before .if1) .taken in
+    let need = fold-scratch S (good S (vo .passed .passed)) i h (s .pre .1 .4) f in
+    let ea = s .pre .1 .1 .scratch-at .at i (omega (arith, hi)) in
+    (omega (arith, s .pre .0, hi), (R, scratch-same (s .pre .1 .1) ((c .before .before .before .before .before .before .before .before .scratch-fill) .kept .0), s .pre .1 .2, hi, f, need))
+
+-- src/lib.rt:230:9
+source-scratch-take-requires : (t : ℕ) → source-lts.Need-scratch-take-requires (
+  kind-at-reads.Asked,
+  kind-at-reads.Learnt,
+  is-fold-reads.Asked,
+  is-fold-reads.Learnt,
+  empty-reads.Asked,
+  empty-reads.Learnt,
+  scratch-fill-reads.Asked,
+  scratch-fill-reads.Learnt,
+  mix-below t,
+  mix.Post,
+  scratch-take-reads.Asked,
+  scratch-take-reads.Learnt,
+  chain-below t,
+  chain.Post,
+  leaf-reads.Asked,
+  leaf-reads.Learnt,
+) (source-at t) source.Post
+source-scratch-take-requires t c κs = let s = (c .before .before .before .before .before .before .before .before .before .before .before .before .before .before .before .before .before .before .before .before .before .before .before .before .before .before .before .before .before .before .before .before .before .before .before .before .before .before .before .before .before .before .before .before .before) in
+    let R = s .pre .1 .0 in
+    let vo = R .voiced in
+    let S = s .args .sheet .now in
+    let i = s .args .i in
+    let hi = s .pre .1 .3 in
+    let h : i < countOf S = omega (arith, hi, vo .passed .count) in
+    let f = ap isFold (sym ((c .before .before .before .before .before .before .before .before .before .before .before .before .before .before .before .before .before .before .before .before .before .before .before .before .before .before .before .before .before .kind-at) .ensures)) ∙ sym ((c .before .before .before .before .before .before .before .before .before .before .before .before .before .before .before .before .before .before .before .before .before .before .before .before .before .before .before .before .is-fold) .ensures) ∙ (c .before .before .before .before .before .before .before .before .before .before .before .before .before .before .before .before .before .before .before .before .before .before .before .before .before .before .before .if1) .taken in
+    let need = fold-scratch S (good S (vo .passed .passed)) i h (s .pre .1 .4) f in
+    let ea = s .pre .1 .1 .scratch-at .at i (omega (arith, hi)) in
+    omega (arith, playable S (vo .passed .passed) .scratch-end i h, ea, s .pre .1 .1 .room, R .short, need, (c .before .before .before .before .before .before .before .before .before .before .before .before .before .before .before .before .before .before .before .before .before .before .before .scratch-fill) .kept .0, (c .before .before .before .before .before .before .before .before .before .before .before .before .before .before .mix) .kept .1 .1 .1 .1 .1 .1 .1 .1 .1 .1 .1 .1 .1 .1 .1 .1 .1 .0, (c .before .before .before .before .before .before .before .before .before .before .before .before .before .before .mix) .kept .1 .1 .1 .1 .1 .1 .1 .1 .1 .1 .1 .0)
+
+-- src/lib.rt:231:9
+source-same-length : (t : ℕ) → source-lts.Need-same-length (
+  kind-at-reads.Asked,
+  kind-at-reads.Learnt,
+  is-fold-reads.Asked,
+  is-fold-reads.Learnt,
+  empty-reads.Asked,
+  empty-reads.Learnt,
+  scratch-fill-reads.Asked,
+  scratch-fill-reads.Learnt,
+  mix-below t,
+  mix.Post,
+  scratch-take-reads.Asked,
+  scratch-take-reads.Learnt,
+  chain-below t,
+  chain.Post,
+  leaf-reads.Asked,
+  leaf-reads.Learnt,
+) (source-at t) source.Post
+source-same-length t c = search needs
+
+-- src/lib.rt:231:9
+source-same-length-2 : (t : ℕ) → source-lts.Need-same-length-2 (
+  kind-at-reads.Asked,
+  kind-at-reads.Learnt,
+  is-fold-reads.Asked,
+  is-fold-reads.Learnt,
+  empty-reads.Asked,
+  empty-reads.Learnt,
+  scratch-fill-reads.Asked,
+  scratch-fill-reads.Learnt,
+  mix-below t,
+  mix.Post,
+  scratch-take-reads.Asked,
+  scratch-take-reads.Learnt,
+  chain-below t,
+  chain.Post,
+  leaf-reads.Asked,
+  leaf-reads.Learnt,
+) (source-at t) source.Post
+source-same-length-2 t c = search needs
+
+-- src/lib.rt:231:9
+source-same-length-3 : (t : ℕ) → source-lts.Need-same-length-3 (
+  kind-at-reads.Asked,
+  kind-at-reads.Learnt,
+  is-fold-reads.Asked,
+  is-fold-reads.Learnt,
+  empty-reads.Asked,
+  empty-reads.Learnt,
+  scratch-fill-reads.Asked,
+  scratch-fill-reads.Learnt,
+  mix-below t,
+  mix.Post,
+  scratch-take-reads.Asked,
+  scratch-take-reads.Learnt,
+  chain-below t,
+  chain.Post,
+  leaf-reads.Asked,
+  leaf-reads.Learnt,
+) (source-at t) source.Post
+source-same-length-3 t c = search needs
+
+-- src/lib.rt:231:9
+source-same-length-4 : (t : ℕ) → source-lts.Need-same-length-4 (
+  kind-at-reads.Asked,
+  kind-at-reads.Learnt,
+  is-fold-reads.Asked,
+  is-fold-reads.Learnt,
+  empty-reads.Asked,
+  empty-reads.Learnt,
+  scratch-fill-reads.Asked,
+  scratch-fill-reads.Learnt,
+  mix-below t,
+  mix.Post,
+  scratch-take-reads.Asked,
+  scratch-take-reads.Learnt,
+  chain-below t,
+  chain.Post,
+  leaf-reads.Asked,
+  leaf-reads.Learnt,
+) (source-at t) source.Post
+source-same-length-4 t c = search needs
+
+-- src/lib.rt:231:9
+source-same-length-5 : (t : ℕ) → source-lts.Need-same-length-5 (
+  kind-at-reads.Asked,
+  kind-at-reads.Learnt,
+  is-fold-reads.Asked,
+  is-fold-reads.Learnt,
+  empty-reads.Asked,
+  empty-reads.Learnt,
+  scratch-fill-reads.Asked,
+  scratch-fill-reads.Learnt,
+  mix-below t,
+  mix.Post,
+  scratch-take-reads.Asked,
+  scratch-take-reads.Learnt,
+  chain-below t,
+  chain.Post,
+  leaf-reads.Asked,
+  leaf-reads.Learnt,
+) (source-at t) source.Post
+source-same-length-5 t c = search needs
+
+-- src/lib.rt:231:9
+source-same-length-6 : (t : ℕ) → source-lts.Need-same-length-6 (
+  kind-at-reads.Asked,
+  kind-at-reads.Learnt,
+  is-fold-reads.Asked,
+  is-fold-reads.Learnt,
+  empty-reads.Asked,
+  empty-reads.Learnt,
+  scratch-fill-reads.Asked,
+  scratch-fill-reads.Learnt,
+  mix-below t,
+  mix.Post,
+  scratch-take-reads.Asked,
+  scratch-take-reads.Learnt,
+  chain-below t,
+  chain.Post,
+  leaf-reads.Asked,
+  leaf-reads.Learnt,
+) (source-at t) source.Post
+source-same-length-6 t c = search needs
+
+-- src/lib.rt:231:9
+source-returns : (t : ℕ) → source-lts.Need-returns (
+  kind-at-reads.Asked,
+  kind-at-reads.Learnt,
+  is-fold-reads.Asked,
+  is-fold-reads.Learnt,
+  empty-reads.Asked,
+  empty-reads.Learnt,
+  scratch-fill-reads.Asked,
+  scratch-fill-reads.Learnt,
+  mix-below t,
+  mix.Post,
+  scratch-take-reads.Asked,
+  scratch-take-reads.Learnt,
+  chain-below t,
+  chain.Post,
+  leaf-reads.Asked,
+  leaf-reads.Learnt,
+) (source-at t) source.Post
+source-returns t c = let s = (c .before .before .before .before .before .before .before .before .before .before .before .before .before .before .before .before .before .before .before .before .before .before .before .before .before .before .before .before .before .before .before .before .before .before .before .before .before .before .before .before .before .before .before .before .before .before .before .before) in
+    let R = s .pre .1 .0 in
+    let vo = R .voiced in
+    let S = s .args .sheet .now in
+    let i = s .args .i in
+    let hi = s .pre .1 .3 in
+    let h : i < countOf S = omega (arith, hi, vo .passed .count) in
+    let f = ap isFold (sym ((c .before .before .before .before .before .before .before .before .before .before .before .before .before .before .before .before .before .before .before .before .before .before .before .before .before .before .before .before .before .before .before .before .kind-at) .ensures)) ∙ sym ((c .before .before .before .before .before .before .before .before .before .before .before .before .before .before .before .before .before .before .before .before .before .before .before .before .before .before .before .before .before .before .before .is-fold) .ensures) ∙ (c .before .before .before .before .before .before .before .before .before .before .before .before .before .before .before .before .before .before .before .before .before .before .before .before .before .before .before .before .before .before .if1) .taken in
+    let need = fold-scratch S (good S (vo .passed .passed)) i h (s .pre .1 .4) f in
+    let ea = s .pre .1 .1 .scratch-at .at i (omega (arith, hi)) in
+    sourced-mix vo i (s .args .c) _ _ _ _ _ _ _ _ _ h need (R .short) (s .pre .1 .1 .room) (fold-is S i f) (rw (ea, (c .before .before .before .before .before .before .before .before .before .before .before .before .before .before .before .before .before .before .before .before .before .before .before .before .before .before .before .empty) .ensures, (c .before .before .before .before .before .before .before .before .before .before .before .before .before .before .before .before .before .before .before .before .before .before .before .before .before .before .before .before .before .before .before .before .kind-at) .ensures) at ((c .before .before .before .before .before .before .before .before .before .before .before .before .before .before .before .before .before .before .before .before .before .before .before .before .before .before .scratch-fill) .ensures)) ((c .before .before .before .before .before .before .before .before .before .before .before .before .before .before .before .before .before .mix) .ensures) (rw (ea, (c .before .before .before .before .before .before .before .before .before .before .before .before .before .before .before .before .before .mix) .kept .1 .1 .1 .1 .1 .1 .1 .1 .1 .1 .1 .0) at ((c .before .before .scratch-take) .ensures))
+
+-- src/lib.rt:234:9
+source-chain-requires : (t : ℕ) → source-lts.Need-chain-requires (
+  kind-at-reads.Asked,
+  kind-at-reads.Learnt,
+  is-fold-reads.Asked,
+  is-fold-reads.Learnt,
+  empty-reads.Asked,
+  empty-reads.Learnt,
+  scratch-fill-reads.Asked,
+  scratch-fill-reads.Learnt,
+  mix-below t,
+  mix.Post,
+  scratch-take-reads.Asked,
+  scratch-take-reads.Learnt,
+  chain-below t,
+  chain.Post,
+  leaf-reads.Asked,
+  leaf-reads.Learnt,
+) (source-at t) source.Post
+source-chain-requires t c κs = let s = (c .before .before .before .before .before .before .before .before .before .before .before .before .before .before .before .before .before .before .before .before .before .before .before .before .before) in
+    let R = s .pre .1 .0 in
+    let vo = R .voiced in
+    let S = s .args .sheet .now in
+    let i = s .args .i in
+    let hi = s .pre .1 .3 in
+    let h : i < countOf S = omega (arith, hi, vo .passed .count) in
+    (omega (arith, s .pre .0, hi), (R, s .pre .1 .1, s .pre .1 .2, hi, sym ((c .before .before .before .before .before .before .before .before .before .kind-at) .ensures) ∙ (c .before .before .before .before .before .before .if2) .taken))
+
+-- src/lib.rt:238:9
+source-same-length-7 : (t : ℕ) → source-lts.Need-same-length-7 (
+  kind-at-reads.Asked,
+  kind-at-reads.Learnt,
+  is-fold-reads.Asked,
+  is-fold-reads.Learnt,
+  empty-reads.Asked,
+  empty-reads.Learnt,
+  scratch-fill-reads.Asked,
+  scratch-fill-reads.Learnt,
+  mix-below t,
+  mix.Post,
+  scratch-take-reads.Asked,
+  scratch-take-reads.Learnt,
+  chain-below t,
+  chain.Post,
+  leaf-reads.Asked,
+  leaf-reads.Learnt,
+) (source-at t) source.Post
+source-same-length-7 t c = search needs
+
+-- src/lib.rt:238:9
+source-same-length-8 : (t : ℕ) → source-lts.Need-same-length-8 (
+  kind-at-reads.Asked,
+  kind-at-reads.Learnt,
+  is-fold-reads.Asked,
+  is-fold-reads.Learnt,
+  empty-reads.Asked,
+  empty-reads.Learnt,
+  scratch-fill-reads.Asked,
+  scratch-fill-reads.Learnt,
+  mix-below t,
+  mix.Post,
+  scratch-take-reads.Asked,
+  scratch-take-reads.Learnt,
+  chain-below t,
+  chain.Post,
+  leaf-reads.Asked,
+  leaf-reads.Learnt,
+) (source-at t) source.Post
+source-same-length-8 t c = search needs
+
+-- src/lib.rt:238:9
+source-same-length-9 : (t : ℕ) → source-lts.Need-same-length-9 (
+  kind-at-reads.Asked,
+  kind-at-reads.Learnt,
+  is-fold-reads.Asked,
+  is-fold-reads.Learnt,
+  empty-reads.Asked,
+  empty-reads.Learnt,
+  scratch-fill-reads.Asked,
+  scratch-fill-reads.Learnt,
+  mix-below t,
+  mix.Post,
+  scratch-take-reads.Asked,
+  scratch-take-reads.Learnt,
+  chain-below t,
+  chain.Post,
+  leaf-reads.Asked,
+  leaf-reads.Learnt,
+) (source-at t) source.Post
+source-same-length-9 t c = search needs
+
+-- src/lib.rt:238:9
+source-same-length-10 : (t : ℕ) → source-lts.Need-same-length-10 (
+  kind-at-reads.Asked,
+  kind-at-reads.Learnt,
+  is-fold-reads.Asked,
+  is-fold-reads.Learnt,
+  empty-reads.Asked,
+  empty-reads.Learnt,
+  scratch-fill-reads.Asked,
+  scratch-fill-reads.Learnt,
+  mix-below t,
+  mix.Post,
+  scratch-take-reads.Asked,
+  scratch-take-reads.Learnt,
+  chain-below t,
+  chain.Post,
+  leaf-reads.Asked,
+  leaf-reads.Learnt,
+) (source-at t) source.Post
+source-same-length-10 t c = search needs
+
+-- src/lib.rt:238:9
+source-same-length-11 : (t : ℕ) → source-lts.Need-same-length-11 (
+  kind-at-reads.Asked,
+  kind-at-reads.Learnt,
+  is-fold-reads.Asked,
+  is-fold-reads.Learnt,
+  empty-reads.Asked,
+  empty-reads.Learnt,
+  scratch-fill-reads.Asked,
+  scratch-fill-reads.Learnt,
+  mix-below t,
+  mix.Post,
+  scratch-take-reads.Asked,
+  scratch-take-reads.Learnt,
+  chain-below t,
+  chain.Post,
+  leaf-reads.Asked,
+  leaf-reads.Learnt,
+) (source-at t) source.Post
+source-same-length-11 t c = search needs
+
+-- src/lib.rt:238:9
+source-same-length-12 : (t : ℕ) → source-lts.Need-same-length-12 (
+  kind-at-reads.Asked,
+  kind-at-reads.Learnt,
+  is-fold-reads.Asked,
+  is-fold-reads.Learnt,
+  empty-reads.Asked,
+  empty-reads.Learnt,
+  scratch-fill-reads.Asked,
+  scratch-fill-reads.Learnt,
+  mix-below t,
+  mix.Post,
+  scratch-take-reads.Asked,
+  scratch-take-reads.Learnt,
+  chain-below t,
+  chain.Post,
+  leaf-reads.Asked,
+  leaf-reads.Learnt,
+) (source-at t) source.Post
+source-same-length-12 t c = search needs
+
+-- src/lib.rt:238:9
+source-returns-2 : (t : ℕ) → source-lts.Need-returns-2 (
+  kind-at-reads.Asked,
+  kind-at-reads.Learnt,
+  is-fold-reads.Asked,
+  is-fold-reads.Learnt,
+  empty-reads.Asked,
+  empty-reads.Learnt,
+  scratch-fill-reads.Asked,
+  scratch-fill-reads.Learnt,
+  mix-below t,
+  mix.Post,
+  scratch-take-reads.Asked,
+  scratch-take-reads.Learnt,
+  chain-below t,
+  chain.Post,
+  leaf-reads.Asked,
+  leaf-reads.Learnt,
+) (source-at t) source.Post
+source-returns-2 t c = let s = (c .before .before .before .before .before .before .before .before .before .before .before .before .before .before .before .before .before .before .before .before .before .before .before .before .before .before .before .before .before .before .before .before .before .before .before .before .before .before) in
+    let R = s .pre .1 .0 in
+    let vo = R .voiced in
+    let S = s .args .sheet .now in
+    let i = s .args .i in
+    let hi = s .pre .1 .3 in
+    let h : i < countOf S = omega (arith, hi, vo .passed .count) in
+    let f = ap isFold (sym ((c .before .before .before .before .before .before .before .before .before .before .before .before .before .before .before .before .before .before .before .before .before .before .kind-at) .ensures)) ∙ sym ((c .before .before .before .before .before .before .before .before .before .before .before .before .before .before .before .before .before .before .before .before .before .is-fold) .ensures) ∙ (c .before .before .before .before .before .before .before .before .before .before .before .before .before .before .before .before .before .before .before .before .if1) .left in
+    sourced-chain vo i (s .args .c) _ _ _ _ _ _ _ _ (chain-is S i f (sym ((c .before .before .before .before .before .before .before .before .before .before .before .before .before .before .before .before .before .before .before .before .before .before .kind-at) .ensures) ∙ (c .before .before .before .before .before .before .before .before .before .before .before .before .before .before .before .before .before .before .before .if2) .taken)) ((c .before .before .before .before .before .before .before .before .before .before .before .before .chain) .ensures)
+
+-- src/lib.rt:240:5
+source-leaf-requires : (t : ℕ) → source-lts.Need-leaf-requires (
+  kind-at-reads.Asked,
+  kind-at-reads.Learnt,
+  is-fold-reads.Asked,
+  is-fold-reads.Learnt,
+  empty-reads.Asked,
+  empty-reads.Learnt,
+  scratch-fill-reads.Asked,
+  scratch-fill-reads.Learnt,
+  mix-below t,
+  mix.Post,
+  scratch-take-reads.Asked,
+  scratch-take-reads.Learnt,
+  chain-below t,
+  chain.Post,
+  leaf-reads.Asked,
+  leaf-reads.Learnt,
+) (source-at t) source.Post
+source-leaf-requires t c κs = let s = (c .before .before .before .before .before .before .before .before .before .before .before .before .before .before .before .before .before .before .before .before .before .before .before .before) in
+    let R = s .pre .1 .0 in
+    let vo = R .voiced in
+    let S = s .args .sheet .now in
+    let i = s .args .i in
+    let hi = s .pre .1 .3 in
+    let h : i < countOf S = omega (arith, hi, vo .passed .count) in
+    let f = ap isFold (sym ((c .before .before .before .before .before .before .before .before .kind-at) .ensures)) ∙ sym ((c .before .before .before .before .before .before .before .is-fold) .ensures) ∙ (c .before .before .before .before .before .before .if1) .left in
+    (R, hi, s .pre .1 .4, f, (λ q. (c .before .before .before .before .before .if2) .left ((c .before .before .before .before .before .before .before .before .kind-at) .ensures ∙ q)), s .pre .1 .2)
+
+-- src/lib.rt:199:1
+source-same-length-13 : (t : ℕ) → source-lts.Need-same-length-13 (
+  kind-at-reads.Asked,
+  kind-at-reads.Learnt,
+  is-fold-reads.Asked,
+  is-fold-reads.Learnt,
+  empty-reads.Asked,
+  empty-reads.Learnt,
+  scratch-fill-reads.Asked,
+  scratch-fill-reads.Learnt,
+  mix-below t,
+  mix.Post,
+  scratch-take-reads.Asked,
+  scratch-take-reads.Learnt,
+  chain-below t,
+  chain.Post,
+  leaf-reads.Asked,
+  leaf-reads.Learnt,
+) (source-at t) source.Post
+source-same-length-13 t c = search needs
+
+-- src/lib.rt:199:1
+source-same-length-14 : (t : ℕ) → source-lts.Need-same-length-14 (
+  kind-at-reads.Asked,
+  kind-at-reads.Learnt,
+  is-fold-reads.Asked,
+  is-fold-reads.Learnt,
+  empty-reads.Asked,
+  empty-reads.Learnt,
+  scratch-fill-reads.Asked,
+  scratch-fill-reads.Learnt,
+  mix-below t,
+  mix.Post,
+  scratch-take-reads.Asked,
+  scratch-take-reads.Learnt,
+  chain-below t,
+  chain.Post,
+  leaf-reads.Asked,
+  leaf-reads.Learnt,
+) (source-at t) source.Post
+source-same-length-14 t c = search needs
+
+-- src/lib.rt:199:1
+source-same-length-15 : (t : ℕ) → source-lts.Need-same-length-15 (
+  kind-at-reads.Asked,
+  kind-at-reads.Learnt,
+  is-fold-reads.Asked,
+  is-fold-reads.Learnt,
+  empty-reads.Asked,
+  empty-reads.Learnt,
+  scratch-fill-reads.Asked,
+  scratch-fill-reads.Learnt,
+  mix-below t,
+  mix.Post,
+  scratch-take-reads.Asked,
+  scratch-take-reads.Learnt,
+  chain-below t,
+  chain.Post,
+  leaf-reads.Asked,
+  leaf-reads.Learnt,
+) (source-at t) source.Post
+source-same-length-15 t c = search needs
+
+-- src/lib.rt:199:1
+source-same-length-16 : (t : ℕ) → source-lts.Need-same-length-16 (
+  kind-at-reads.Asked,
+  kind-at-reads.Learnt,
+  is-fold-reads.Asked,
+  is-fold-reads.Learnt,
+  empty-reads.Asked,
+  empty-reads.Learnt,
+  scratch-fill-reads.Asked,
+  scratch-fill-reads.Learnt,
+  mix-below t,
+  mix.Post,
+  scratch-take-reads.Asked,
+  scratch-take-reads.Learnt,
+  chain-below t,
+  chain.Post,
+  leaf-reads.Asked,
+  leaf-reads.Learnt,
+) (source-at t) source.Post
+source-same-length-16 t c = search needs
+
+-- src/lib.rt:199:1
+source-same-length-17 : (t : ℕ) → source-lts.Need-same-length-17 (
+  kind-at-reads.Asked,
+  kind-at-reads.Learnt,
+  is-fold-reads.Asked,
+  is-fold-reads.Learnt,
+  empty-reads.Asked,
+  empty-reads.Learnt,
+  scratch-fill-reads.Asked,
+  scratch-fill-reads.Learnt,
+  mix-below t,
+  mix.Post,
+  scratch-take-reads.Asked,
+  scratch-take-reads.Learnt,
+  chain-below t,
+  chain.Post,
+  leaf-reads.Asked,
+  leaf-reads.Learnt,
+) (source-at t) source.Post
+source-same-length-17 t c = search needs
+
+-- src/lib.rt:199:1
+source-returns-3 : (t : ℕ) → source-lts.Need-returns-3 (
+  kind-at-reads.Asked,
+  kind-at-reads.Learnt,
+  is-fold-reads.Asked,
+  is-fold-reads.Learnt,
+  empty-reads.Asked,
+  empty-reads.Learnt,
+  scratch-fill-reads.Asked,
+  scratch-fill-reads.Learnt,
+  mix-below t,
+  mix.Post,
+  scratch-take-reads.Asked,
+  scratch-take-reads.Learnt,
+  chain-below t,
+  chain.Post,
+  leaf-reads.Asked,
+  leaf-reads.Learnt,
+) (source-at t) source.Post
+source-returns-3 t c = let s = (c .before .before .before .before .before .before .before .before .before .before .before .before .before .before .before .before .before .before .before .before .before .before .before .before .before .before .before .before .before .before .before .before .before .before .before) in
+    let R = s .pre .1 .0 in
+    let vo = R .voiced in
+    let S = s .args .sheet .now in
+    let i = s .args .i in
+    let hi = s .pre .1 .3 in
+    let h : i < countOf S = omega (arith, hi, vo .passed .count) in
+    let f = ap isFold (sym ((c .before .before .before .before .before .before .before .before .before .before .before .before .before .before .before .before .before .before .before .kind-at) .ensures)) ∙ sym ((c .before .before .before .before .before .before .before .before .before .before .before .before .before .before .before .before .before .before .is-fold) .ensures) ∙ (c .before .before .before .before .before .before .before .before .before .before .before .before .before .before .before .before .before .if1) .left in
+    sourced-leaf vo i (s .args .c) _ _ _ _ _ _ _ ((c .before .before .before .before .before .before .before .before .before .before .leaf) .ensures)
+
+pub +chain+mix+source-spec : {M : Type 1} → statement M
++chain+mix+source-spec = close μ-chain μ-mix μ-source (λ t. chain-lts.spec (
+  source-below t,
+  source.Post,
+)
+    (chain-at t)
+    chain.Post
+    chain-Inv-loop
+    chain-μ-loop
+    (chain-mul-j t)
+    (chain-shared-slice-read-j t)
+    (chain-loop-holds t)
+    (chain-source-requires t)
+    (chain-mul-j-2 t)
+    (chain-shared-slice-read-j-2 t)
+    (chain-loop-less t)
+    (chain-loop-again t)
+    (chain-same-length t)
+    (chain-same-length-2 t)
+    (chain-same-length-3 t)
+    (chain-same-length-4 t)
+    (chain-same-length-5 t)
+    (chain-same-length-6 t)
+    (chain-returns t))
+    (λ t. mix-lts.spec (
+      kind-at-reads.Asked,
+      kind-at-reads.Learnt,
+      fill-block-reads.Asked,
+      fill-block-reads.Learnt,
+      source-below t,
+      source.Post,
+      scratch-join-reads.Asked,
+      scratch-join-reads.Learnt,
+    )
+    (mix-at t)
+    mix.Post
+    mix-Inv-loop
+    mix-μ-loop
+    (mix-kind-at-requires t)
+    (mix-mul-at t)
+    (mix-shared-slice-read-at t)
+    (mix-mul-j t)
+    (mix-shared-slice-read-j t)
+    (mix-loop-holds t)
+    (mix-fill-block-requires t)
+    (mix-source-requires t)
+    (mix-scratch-join-requires t)
+    (mix-mul-j-2 t)
+    (mix-shared-slice-read-j-2 t)
+    (mix-loop-less t)
+    (mix-loop-again t)
+    (mix-same-length t)
+    (mix-same-length-2 t)
+    (mix-same-length-3 t)
+    (mix-same-length-4 t)
+    (mix-same-length-5 t)
+    (mix-same-length-6 t)
+    (mix-returns t))
+    λ t. source-lts.spec (
+      kind-at-reads.Asked,
+      kind-at-reads.Learnt,
+      is-fold-reads.Asked,
+      is-fold-reads.Learnt,
+      empty-reads.Asked,
+      empty-reads.Learnt,
+      scratch-fill-reads.Asked,
+      scratch-fill-reads.Learnt,
+      mix-below t,
+      mix.Post,
+      scratch-take-reads.Asked,
+      scratch-take-reads.Learnt,
+      chain-below t,
+      chain.Post,
+      leaf-reads.Asked,
+      leaf-reads.Learnt,
+    )
+    (source-at t)
+    source.Post
+    (source-kind-at-requires t)
+    (source-is-fold-requires t)
+    (source-mul-at t)
+    (source-shared-slice-read-at t)
+    (source-empty-requires t)
+    (source-scratch-fill-requires t)
+    (source-mix-requires t)
+    (source-scratch-take-requires t)
+    (source-same-length t)
+    (source-same-length-2 t)
+    (source-same-length-3 t)
+    (source-same-length-4 t)
+    (source-same-length-5 t)
+    (source-same-length-6 t)
+    (source-returns t)
+    (source-chain-requires t)
+    (source-same-length-7 t)
+    (source-same-length-8 t)
+    (source-same-length-9 t)
+    (source-same-length-10 t)
+    (source-same-length-11 t)
+    (source-same-length-12 t)
+    (source-returns-2 t)
+    (source-leaf-requires t)
+    (source-same-length-13 t)
+    (source-same-length-14 t)
+    (source-same-length-15 t)
+    (source-same-length-16 t)
+    (source-same-length-17 t)
+    (source-returns-3 t)

@@ -1,0 +1,452 @@
+// The walk over the records of a voice, a block at a time: each record over the whole block before the next. The source function enters
+// a chain, and the chain function enters its source stage; along a chain goes a loop, so the stack is as deep as nodes nest.
+ghost use mathlib.Core.Path.{_≡_};
+ghost use mathlib.Core.Bool.{true, false};
+ghost use mathlib.Core.List.{map};
+ghost use Prim.Native.Nat.{_+_, _*_, _≤_, _<_};
+ghost use lib.ListN.{length};
+ghost use Rattle.tree.specs.Comm.{zip};
+ghost use Rattle.sheet.specs.Record.{countOf, kind};
+ghost use Rattle.sheet.specs.Kinds.{isFold};
+ghost use Rattle.layout.specs.Needs.{scratch};
+ghost use Rattle.unit.specs.Voice.{joinOf, emptyOf};
+ghost use Rattle.units.specs.Values.{valuesOf, buffersOf};
+ghost use mathlib.Core.Logic.{_≢_};
+ghost use Rattle.walk.specs.Nodes.{Node};
+ghost use Rattle.walk.specs.Walk.{Ready, Scratch, Sound, Lends, Played, Leafed, Sourced, Chained, Mixed, put, mid};
+
+pub fn fill_block(out: &mut [f32], x: f32)
+    ensures { λ r. ⌜ now (out .exit) ≡ map (λ y. x) (now (out .entry)) ⌝ }
+{
+    let mut k: usize = 0;
+    while k < out.len() {
+        out[k] = x;
+        k += 1;
+    }
+}
+
+// Mix adds, Mul multiplies.
+fn join(kind: u8, a: f32, b: f32) -> f32
+    ensures { λ r. ⌜ r ≡ joinOf kind a b ⌝ }
+{
+    if kind == 12 { a * b } else { a + b }
+}
+
+// What no inputs come to.
+fn empty(kind: u8) -> f32
+    ensures { λ r. ⌜ r ≡ emptyOf kind ⌝ }
+{
+    if kind == 12 { 1.0 } else { 0.0 }
+}
+
+fn join_into(kind: u8, acc: &mut [f32], x: &[f32])
+    requires { ⌜ length (now acc) ≡ length (now x) ⌝ }
+    ensures { λ r. ⌜ now (acc .exit) ≡ zip (joinOf kind) (now (acc .entry)) (now (x .entry)) ⌝ }
+{
+    let mut k: usize = 0;
+    while k < acc.len() {
+        acc[k] = join(kind, acc[k], x[k]);
+        k += 1;
+    }
+}
+
+fn copy_from(out: &mut [f32], x: &[f32])
+    requires { ⌜ length (now out) ≡ length (now x) ⌝ }
+    ensures { λ r. ⌜ now (out .exit) ≡ now (x .entry) ⌝ }
+{
+    let mut k: usize = 0;
+    while k < out.len() {
+        out[k] = x[k];
+        k += 1;
+    }
+}
+
+// The n numbers of the scratch from at on: filled, joined to, and taken.
+fn scratch_fill(scr: &mut [f32], at: usize, n: usize, x: f32)
+    requires { ⌜ at + n ≤ length (now scr) ⌝ }
+    ensures { λ r. ⌜ now (scr .exit) ≡ put at n (now (scr .entry)) (map (λ y. x) (mid at n (now (scr .entry)))) ⌝ }
+{
+    let e = at + n;
+    fill_block(&mut scr[at..e], x);
+}
+
+fn scratch_join(kind: u8, scr: &mut [f32], at: usize, x: &[f32])
+    requires { ⌜ at + length (now x) ≤ length (now scr) ⌝ }
+    ensures { λ r. ⌜ now (scr .exit) ≡ put at (length (now (x .entry))) (now (scr .entry)) (zip (joinOf kind) (mid at (length (now (x .entry))) (now (scr .entry))) (now (x .entry))) ⌝ }
+{
+    let e = at + x.len();
+    join_into(kind, &mut scr[at..e], x);
+}
+
+fn scratch_take(out: &mut [f32], scr: &[f32], at: usize)
+    requires { ⌜ at + length (now out) ≤ length (now scr) ⌝ }
+    ensures { λ r. ⌜ now (out .exit) ≡ mid at (length (now (out .entry))) (now (scr .entry)) ⌝ }
+{
+    let e = at + out.len();
+    copy_from(out, &scr[at..e]);
+}
+
+fn is_fold(kind: u8) -> bool
+    ensures { λ r. ⌜ r ≡ isFold kind ⌝ }
+{
+    (kind == 11) | (kind == 12)
+}
+
+// The kind of record i.
+fn kind_at(sheet: &[u8], i: usize) -> u8
+    requires { ⌜ (i < countOf (now sheet)) × (countOf (now sheet) ≤ 256) × (24 + 40 * countOf (now sheet) ≤ length (now sheet)) ⌝ }
+    ensures { λ r. ⌜ r ≡ kind (now (sheet .entry)) i ⌝ }
+{
+    let a = 24 + 40 * i;
+    sheet::kind(&sheet[a..])
+}
+
+// A built record's own unit, on its own parts of the cells and registers.
+fn own(
+    sheet: &[u8],
+    count: usize,
+    nexts: &[usize],
+    places: &[usize],
+    words: &[usize],
+    i: usize,
+    c: control::Controls,
+    out: &mut [f32],
+    v: &[f32],
+    w: &[f32],
+    pitch: &[f32],
+    cells: &mut [f32],
+    regs: &mut [u64],
+)
+    requires { ⌜ Lends (now sheet) count (now nexts) (now places) (now words) i c (now pitch) (length (now out)) (length (now v)) (length (now w)) × Sound (now sheet) (now cells) (now regs) ⌝ }
+    ensures { λ r. ⌜ Played (now (sheet .entry)) i c (now (out .entry)) (buffersOf (valuesOf (kind (now (sheet .entry)) i)) (now (v .entry)) (now (w .entry))) (now (cells .entry)) (now (regs .entry)) (now (out .exit)) (now (cells .exit)) (now (regs .exit)) ⌝ }
+{
+    let k = kind_at(sheet, i);
+    let a = places[i];
+    let e = places[i + 1];
+    let p = words[i];
+    let q = words[i + 1];
+    units::play(
+        sheet,
+        count,
+        nexts,
+        i,
+        k,
+        c,
+        out,
+        v,
+        w,
+        pitch,
+        &mut cells[a..e],
+        &mut regs[p..q],
+    );
+}
+
+// A record that plays by its own unit: v and w are buffers for its values.
+fn leaf(
+    sheet: &[u8],
+    count: usize,
+    nexts: &[usize],
+    acts: &[u8],
+    begins: &[usize],
+    afters: &[usize],
+    places: &[usize],
+    words: &[usize],
+    i: usize,
+    c: control::Controls,
+    out: &mut [f32],
+    v: &mut [f32],
+    w: &mut [f32],
+    pitch: &[f32],
+    cells: &mut [f32],
+    regs: &mut [u64],
+)
+    requires { ⌜ Ready (now sheet) count (now nexts) (now acts) (now begins) (now afters) (now places) (now words) c (now pitch) (length (now out)) (length (now v)) (length (now w)) × (i < count) × Node (now sheet) i × (isFold (kind (now sheet) i) ≡ false) × (kind (now sheet) i ≢ 13) × Sound (now sheet) (now cells) (now regs) ⌝ }
+    ensures { λ r. ⌜ Leafed (now (sheet .entry)) i c (now (out .entry)) (now (cells .entry)) (now (regs .entry)) (now (out .exit)) (now (cells .exit)) (now (regs .exit)) ⌝ }
+{
+    if acts[i] < 2 {
+        fill_block(out, 0.0);
+        return;
+    }
+    let m = units::values_of(kind_at(sheet, i));
+    if m == 0 {
+        own(
+            sheet,
+            count,
+            nexts,
+            places,
+            words,
+            i,
+            c,
+            out,
+            pitch,
+            pitch,
+            pitch,
+            cells,
+            regs,
+        );
+        return;
+    }
+    let j = begins[i];
+    own(
+        sheet,
+        count,
+        nexts,
+        places,
+        words,
+        j,
+        c,
+        v,
+        pitch,
+        pitch,
+        pitch,
+        cells,
+        regs,
+    );
+    if m == 1 {
+        own(
+            sheet,
+            count,
+            nexts,
+            places,
+            words,
+            i,
+            c,
+            out,
+            v,
+            v,
+            pitch,
+            cells,
+            regs,
+        );
+        return;
+    }
+    let k = afters[j];
+    own(
+        sheet,
+        count,
+        nexts,
+        places,
+        words,
+        k,
+        c,
+        w,
+        pitch,
+        pitch,
+        pitch,
+        cells,
+        regs,
+    );
+    own(
+        sheet,
+        count,
+        nexts,
+        places,
+        words,
+        i,
+        c,
+        out,
+        v,
+        w,
+        pitch,
+        cells,
+        regs,
+    );
+}
+
+// Record i's block: out is what comes in, and then what it makes.
+pub fn source(
+    sheet: &[u8],
+    count: usize,
+    nexts: &[usize],
+    acts: &[u8],
+    begins: &[usize],
+    afters: &[usize],
+    places: &[usize],
+    words: &[usize],
+    blocks: &[usize],
+    i: usize,
+    c: control::Controls,
+    out: &mut [f32],
+    v: &mut [f32],
+    w: &mut [f32],
+    pitch: &[f32],
+    cells: &mut [f32],
+    regs: &mut [u64],
+    scr: &mut [f32],
+)
+    requires { ⌜ Ready (now sheet) count (now nexts) (now acts) (now begins) (now afters) (now places) (now words) c (now pitch) (length (now out)) (length (now v)) (length (now w)) × Scratch (now sheet) count (now blocks) (length (now scr)) × Sound (now sheet) (now cells) (now regs) × (i < count) × Node (now sheet) i ⌝ }
+    ensures { λ r. ⌜ Sourced (now (sheet .entry)) i c (now (out .entry)) (now (cells .entry)) (now (regs .entry)) (now (scr .entry)) (now (out .exit)) (now (cells .exit)) (now (regs .exit)) (now (scr .exit)) ⌝ }
+{
+    let k = kind_at(sheet, i);
+    if is_fold(k) {
+        let at = blocks[i];
+        scratch_fill(scr, at, out.len(), empty(k));
+        mix(
+            sheet,
+            count,
+            nexts,
+            acts,
+            begins,
+            afters,
+            places,
+            words,
+            blocks,
+            i,
+            c,
+            out,
+            v,
+            w,
+            pitch,
+            cells,
+            regs,
+            scr,
+        );
+        scratch_take(out, scr, at);
+        return;
+    }
+    if k == 13 {
+        chain(
+            sheet,
+            count,
+            nexts,
+            acts,
+            begins,
+            afters,
+            places,
+            words,
+            blocks,
+            i,
+            c,
+            out,
+            v,
+            w,
+            pitch,
+            cells,
+            regs,
+            scr,
+        );
+        return;
+    }
+    leaf(
+        sheet,
+        count,
+        nexts,
+        acts,
+        begins,
+        afters,
+        places,
+        words,
+        i,
+        c,
+        out,
+        v,
+        w,
+        pitch,
+        cells,
+        regs,
+    );
+}
+
+// The stages of a Chain from its source stage on: out goes through each.
+fn chain(
+    sheet: &[u8],
+    count: usize,
+    nexts: &[usize],
+    acts: &[u8],
+    begins: &[usize],
+    afters: &[usize],
+    places: &[usize],
+    words: &[usize],
+    blocks: &[usize],
+    i: usize,
+    c: control::Controls,
+    out: &mut [f32],
+    v: &mut [f32],
+    w: &mut [f32],
+    pitch: &[f32],
+    cells: &mut [f32],
+    regs: &mut [u64],
+    scr: &mut [f32],
+)
+    requires { ⌜ Ready (now sheet) count (now nexts) (now acts) (now begins) (now afters) (now places) (now words) c (now pitch) (length (now out)) (length (now v)) (length (now w)) × Scratch (now sheet) count (now blocks) (length (now scr)) × Sound (now sheet) (now cells) (now regs) × (i < count) × (kind (now sheet) i ≡ 13) ⌝ }
+    ensures { λ r. ⌜ Chained (now (sheet .entry)) i c (now (out .entry)) (now (cells .entry)) (now (regs .entry)) (now (scr .entry)) (now (out .exit)) (now (cells .exit)) (now (regs .exit)) (now (scr .exit)) ⌝ }
+{
+    let mut j = begins[i];
+    while j != 0 {
+        source(
+            sheet,
+            count,
+            nexts,
+            acts,
+            begins,
+            afters,
+            places,
+            words,
+            blocks,
+            j,
+            c,
+            out,
+            v,
+            w,
+            pitch,
+            cells,
+            regs,
+            scr,
+        );
+        j = afters[j];
+    }
+}
+
+// The inputs of a Mix or a Mul, joined one after another in its own block of scratch.
+fn mix(
+    sheet: &[u8],
+    count: usize,
+    nexts: &[usize],
+    acts: &[u8],
+    begins: &[usize],
+    afters: &[usize],
+    places: &[usize],
+    words: &[usize],
+    blocks: &[usize],
+    i: usize,
+    c: control::Controls,
+    out: &mut [f32],
+    v: &mut [f32],
+    w: &mut [f32],
+    pitch: &[f32],
+    cells: &mut [f32],
+    regs: &mut [u64],
+    scr: &mut [f32],
+)
+    requires { ⌜ Ready (now sheet) count (now nexts) (now acts) (now begins) (now afters) (now places) (now words) c (now pitch) (length (now out)) (length (now v)) (length (now w)) × Scratch (now sheet) count (now blocks) (length (now scr)) × Sound (now sheet) (now cells) (now regs) × (i < count) × (isFold (kind (now sheet) i) ≡ true) × (scratch (now sheet) i ≡ 256) ⌝ }
+    ensures { λ r. ⌜ Mixed (now (sheet .entry)) i (length (now (out .entry))) c (now (cells .entry)) (now (regs .entry)) (now (scr .entry)) (now (cells .exit)) (now (regs .exit)) (now (scr .exit)) ⌝ }
+{
+    let k = kind_at(sheet, i);
+    let at = blocks[i];
+    let mut j = begins[i];
+    while j != 0 {
+        fill_block(out, 0.0);
+        source(
+            sheet,
+            count,
+            nexts,
+            acts,
+            begins,
+            afters,
+            places,
+            words,
+            blocks,
+            j,
+            c,
+            out,
+            v,
+            w,
+            pitch,
+            cells,
+            regs,
+            scr,
+        );
+        scratch_join(k, scr, at, out);
+        j = afters[j];
+    }
+}
