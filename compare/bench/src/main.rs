@@ -1,5 +1,7 @@
-//! The port's leaves and kernels beside the Rust's, call by call: a markdown table of best times.
+//! The port beside the Rust: markdown tables of best times. Leaves and det's functions call by call, or with the word `blocks`
+//! each kind's kernel over blocks.
 
+mod blocks;
 mod functions;
 mod timing;
 
@@ -189,7 +191,7 @@ fn wrappers(t: &mut Table) {
     t.one("log10f", "0.000,001 to 2", singles(1e-6, 2.0), rust::log10f, det_log10f);
 }
 
-fn main() -> ExitCode {
+fn calls() -> ExitCode {
     println!("| function | inputs | Rust ns | Rattle ns | ratio |");
     println!("|---|---|---|---|---|");
     let mut table = Table::default();
@@ -202,4 +204,12 @@ fn main() -> ExitCode {
         return ExitCode::FAILURE;
     }
     ExitCode::SUCCESS
+}
+
+fn main() -> ExitCode {
+    let words: Vec<String> = std::env::args().skip(1).collect();
+    match words.first().map(String::as_str) {
+        Some("blocks") => blocks::run(words.get(1).map(String::as_str)),
+        _ => calls(),
+    }
 }

@@ -109,3 +109,28 @@ pub fn compress([at, rt, threshold, ratio, makeup, env]: [f32; 6], x: f32) -> [f
     let Proc::Compress { env, .. } = proc else { panic!() };
     [out, env]
 }
+/// A processor over blocks, built from its node.
+pub struct Processor(Proc);
+
+impl Processor {
+    pub fn build(node: &Node, sr: u32, n: usize) -> Processor {
+        Processor(try_proc(node, &at_rate(sr, n), 0).unwrap())
+    }
+    pub fn block(&mut self, buf: &mut [f32], t0: usize) {
+        self.0.process(buf, t0);
+    }
+    pub fn line_len(&self) -> usize {
+        let (Proc::Delay { buf, .. } | Proc::Chorus { buf, .. }) = &self.0 else { panic!() };
+        buf.len()
+    }
+    /// An anti-aliased drive's antiderivative at 0, with which it is built.
+    pub fn f_prev(&self) -> f32 {
+        let Proc::Drive { f_prev, .. } = &self.0 else { panic!() };
+        *f_prev
+    }
+    /// The attack, the release and the makeup of a compressor.
+    pub fn follower(&self) -> [f32; 3] {
+        let Proc::Compress { at, rt, makeup, .. } = &self.0 else { panic!() };
+        [*at, *rt, *makeup]
+    }
+}

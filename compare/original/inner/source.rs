@@ -87,3 +87,19 @@ pub fn dust(word: u64, p: f32, g: f32, y: f32) -> (f32, u64, f32) {
     let Src::Dust { rng, y, .. } = src else { panic!() };
     (out, state(&rng), y)
 }
+/// A source over blocks, built from its node.
+pub struct Source(Src);
+
+impl Source {
+    pub fn build(node: &Node, sr: u32, n: usize) -> Source {
+        Source(try_src(node, &at_rate(sr, n), 0).unwrap())
+    }
+    pub fn block(&mut self, out: &mut [f32], t0: usize, pitch: &[f32]) {
+        self.0.process(out, t0, pitch);
+    }
+    /// The generator's word of a noise or a dust.
+    pub fn word(&self) -> u64 {
+        let (Src::Noise { rng, .. } | Src::Dust { rng, .. }) = &self.0 else { panic!() };
+        state(rng)
+    }
+}

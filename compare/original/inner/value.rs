@@ -34,3 +34,22 @@ pub fn rand([inc, from, to]: [f32; 3], word: u64, [prev, next, phase]: [f32; 3])
     let Val::Rand { rng, prev, next, phase, .. } = val else { panic!() };
     (out, dsp::inner::state(&rng), [prev, next, phase])
 }
+/// A value over blocks, as its node evaluates it: sample after sample.
+pub struct Values(Val);
+
+impl Values {
+    pub fn build(v: &Value, sr: u32, n: usize) -> Values {
+        Values(Val::build(v, sr, n))
+    }
+    #[inline(never)]
+    pub fn block(&mut self, out: &mut [f32], t0: usize) {
+        for (i, o) in out.iter_mut().enumerate() {
+            *o = self.0.eval(t0 + i);
+        }
+    }
+    /// Rand's word, its two numbers and its phase.
+    pub fn rand(&self) -> (u64, [f32; 3]) {
+        let Val::Rand { rng, prev, next, phase, .. } = &self.0 else { panic!() };
+        (dsp::inner::state(rng), [*prev, *next, *phase])
+    }
+}

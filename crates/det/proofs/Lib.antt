@@ -2,3 +2,5 @@ pub mod Tests
 pub mod Power
 pub mod Parts
 pub mod Small
+pub mod Quarter
+pub mod Ten

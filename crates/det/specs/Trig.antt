@@ -69,6 +69,10 @@ turned (suc zero) a = cosPoly a
 turned (suc (suc zero)) a = neg (sinPoly a)
 turned (suc (suc (suc k))) a = neg (cosPoly a)
 
+-- the sine of an angle that is brought near [-π, π] already: what `sinOf` does next
+abbrev pub sinReduced : Float → Float
+sinReduced r = let q = toSigned 63 (roundOf binary64 (r ⊘ fracPi2)) in turned (quadrantOf q) (r ⊖ ofInt binary64 q ⊗ fracPi2)
+
 -- q is cut off at the ends of an i64's range, so for a huge x the sine is any double
 unfoldable pub sinOf : Float → Float
 sinOf x =

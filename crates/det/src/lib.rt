@@ -10,9 +10,9 @@ ghost use lib.Ieee as Ieee;
 ghost use lib.Ieee.{binary64};
 ghost use lib.Ieee.Positive.{num, den};
 ghost use Rattle.cast.specs.Narrow.{narrowOf};
-ghost use Rattle.det.specs.Trig.{sinPoly, cosPoly, reduce2pi, quadrantOf, turned, sinOf, cosOf};
+ghost use Rattle.det.specs.Trig.{sinPoly, cosPoly, reduce2pi, quadrantOf, turned, sinReduced, sinOf, cosOf};
 ghost use Rattle.det.specs.Exp.{powerOfTwo, expPoly, expOf, expm1Small};
-ghost use Rattle.det.specs.Log.{exponentOf, mantissaOf, minPositive, lnSeries, lnFolded, lnOf, powOf, log10Of};
+ghost use Rattle.det.specs.Log.{exponentOf, mantissaOf, minPositive, lnSeries, lnFolded, lnOf, powOf, ten, log10Of};
 ghost use Rattle.det.specs.Tanh.{tanhAbove, tanhOf};
 
 // ---- whole numbers to integers. Rattle's own cast, one instruction, takes those below 2^52 in size, once -0.0 is made
@@ -97,11 +97,21 @@ pub fn cos_poly(x: f64) -> f64
     1.0 - 0.5 * z + z * z * (C1 + z * (C2 + z * (C3 + z * (C4 + z * (C5 + z * C6)))))
 }
 
-// x less the nearest number of periods.
+// x less the nearest number of periods, k. The angle of a phase has k = 0 or 1, which a comparison tells sooner than the rounding.
 pub fn reduce_2pi(x: f64) -> f64
     ensures { λ r. ⌜ r ≡ reduce2pi x ⌝ }
 {
-    let k = float::round_f64(x * INV_PI2);
+    let y = x * INV_PI2;
+    if y < 0.5 {
+        if y > 0.0 {
+            return ((x - 0.0 * PI2_HI) - 0.0 * PI2_MID) - 0.0 * PI2_LO;
+        }
+    } else {
+        if y < 1.5 {
+            return ((x - 1.0 * PI2_HI) - 1.0 * PI2_MID) - 1.0 * PI2_LO;
+        }
+    }
+    let k = float::round_f64(y);
     ((x - k * PI2_HI) - k * PI2_MID) - k * PI2_LO
 }
 
@@ -125,13 +135,44 @@ fn turn(k: u64, a: f64) -> f64
 }
 
 // q, as an integer and as a float, counts the quarter turns that bring r near 0.
-pub fn sin(x: f64) -> f64
-    ensures { λ r. ⌜ r ≡ sinOf x ⌝ }
+fn sin_turned(r: f64) -> f64
+    ensures { λ v. ⌜ v ≡ sinReduced r ⌝ }
 {
-    let r = reduce_2pi(x);
     let q = float::round_f64(r / FRAC_PI_2);
     let a = r - whole_by_i64(q) * FRAC_PI_2;
     turn(quadrant(whole_to_i64(q)), a)
+}
+
+// The same, with q told by comparisons where it is from -2 to 2: nothing waits for the quotient.
+fn sin_reduced(r: f64) -> f64
+    ensures { λ v. ⌜ v ≡ sinReduced r ⌝ }
+{
+    let z = r / FRAC_PI_2;
+    if z < 0.5 {
+        if z > -0.5 {
+            return sin_poly(r - 0.0 * FRAC_PI_2);
+        }
+        if z > -1.5 {
+            return -cos_poly(r - -1.0 * FRAC_PI_2);
+        }
+        if z > -2.5 {
+            return -sin_poly(r - -2.0 * FRAC_PI_2);
+        }
+    } else {
+        if z < 1.5 {
+            return cos_poly(r - 1.0 * FRAC_PI_2);
+        }
+        if z < 2.5 {
+            return -sin_poly(r - 2.0 * FRAC_PI_2);
+        }
+    }
+    sin_turned(r)
+}
+
+pub fn sin(x: f64) -> f64
+    ensures { λ r. ⌜ r ≡ sinOf x ⌝ }
+{
+    sin_reduced(reduce_2pi(x))
 }
 
 pub fn cos(x: f64) -> f64
@@ -343,6 +384,16 @@ pub fn powf(x: f64, y: f64) -> f64
 // ln(10.0): what `ln` answers there.
 const LN_10: f64 = 2.302585092994046;
 
+// 10^y, with ln(10.0) at hand.
+pub fn pow10(y: f64) -> f64
+    ensures { λ r. ⌜ r ≡ powOf ten y ⌝ }
+{
+    if y == 0.0 {
+        return 1.0;
+    }
+    exp(y * LN_10)
+}
+
 pub fn log10(x: f64) -> f64
     ensures { λ r. ⌜ r ≡ log10Of x ⌝ }
 {
@@ -407,6 +458,12 @@ pub fn powff(x: f32, y: f32) -> f32
     ensures { λ r. ⌜ r ≡ narrowOf (powOf x y) ⌝ }
 {
     cast::f64_to_f32(powf(cast::f32_to_f64(x), cast::f32_to_f64(y)))
+}
+
+pub fn pow10f(y: f32) -> f32
+    ensures { λ r. ⌜ r ≡ narrowOf (powOf ten y) ⌝ }
+{
+    cast::f64_to_f32(pow10(cast::f32_to_f64(y)))
 }
 
 pub fn tanhf(x: f32) -> f32

@@ -1,4 +1,6 @@
 ghost use mathlib.Core.Path.{_≡_};
+ghost use lib.Ieee as Ieee;
+ghost use lib.Ieee.{binary32};
 ghost use Rattle.dsp.specs.Math.{sine, cosine, exponential, logarithm1p, power, tangent, logarithm10};
 ghost use Rattle.dsp.specs.Random.{mixed, stepped, drawn, unitOf, biOf, rangeOf, pathOf, seedOf, randSeedOf};
 ghost use Rattle.dsp.specs.Envelope.{through, level, adsrOf};
@@ -172,6 +174,12 @@ pub fn powf(x: f32, y: f32) -> f32
     ensures { λ r. ⌜ r ≡ power x y ⌝ }
 {
     det::powff(x, y)
+}
+
+pub fn pow10(y: f32) -> f32
+    ensures { λ r. ⌜ r ≡ power (Ieee.ofBits binary32 0x4120_0000) y ⌝ }
+{
+    det::pow10f(y)
 }
 
 pub fn tanh(x: f32) -> f32

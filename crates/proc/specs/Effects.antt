@@ -125,3 +125,13 @@ compressOf at rt threshold ratio makeup env x =
     let e = followed at rt env (absOf x) in
     let db = ofBits binary32 0x41a0_0000 ⊗ logarithm10 (maxOf e (ofBits binary32 0x3089_705f)) in
     record { out = x ⊗ power (ofBits binary32 0x4120_0000) (reductionOf threshold ratio db ⊘ ofBits binary32 0x41a0_0000) ⊗ makeup; env = e }
+
+-- its two halves: the follower with the power of 10 that the gain is, and the gain
+abbrev pub compressLevel : Float → Float → Float → Float → Float → Float → Compressed
+compressLevel at rt threshold ratio env x =
+    let e = followed at rt env (absOf x) in
+    let db = ofBits binary32 0x41a0_0000 ⊗ logarithm10 (maxOf e (ofBits binary32 0x3089_705f)) in
+    record { out = reductionOf threshold ratio db ⊘ ofBits binary32 0x41a0_0000; env = e }
+
+abbrev pub compressGain : Float → Float → Float → Float
+compressGain makeup level x = x ⊗ power (ofBits binary32 0x4120_0000) level ⊗ makeup

@@ -1,7 +1,7 @@
 // The processors for one sample: values in, a struct of the sample and the new state out.
 ghost use mathlib.Core.Path.{_≡_};
 ghost use Prim.Native.Nat.{_<_};
-ghost use Rattle.proc.specs.Effects.{gainOf, tuned, biquadStep, filterOf, delayOf, nextPlace, combOf, allpassOf, reverbMix, modeOf, driven, driveStep, drivePlain, lfoAt, tremoloOf, chorusRead, chorusOf, compressOf};
+ghost use Rattle.proc.specs.Effects.{gainOf, tuned, biquadStep, filterOf, delayOf, nextPlace, combOf, allpassOf, reverbMix, modeOf, driven, driveStep, drivePlain, lfoAt, tremoloOf, chorusRead, chorusOf, compressLevel, compressGain, compressOf};
 
 // A filter's eleven cells, in the sheet's order.
 pub struct Filter {
@@ -295,6 +295,24 @@ fn follow(at: f32, rt: f32, env: f32, rect: f32) -> f32
     rect + rt * (env - rect)
 }
 
+// The follower, and the power of 10 that the gain is.
+pub fn compress_level(at: f32, rt: f32, threshold: f32, ratio: f32, env: f32, x: f32) -> Compressed
+    ensures { λ r. ⌜ r ≡ compressLevel at rt threshold ratio env x ⌝ }
+{
+    let e = follow(at, rt, env, float::abs(x));
+    let db = 20.0 * dsp::log10(float::max(e, 1e-9));
+    Compressed {
+        out: reduction(threshold, ratio, db) / 20.0,
+        env: e,
+    }
+}
+
+pub fn compress_gain(makeup: f32, level: f32, x: f32) -> f32
+    ensures { λ r. ⌜ r ≡ compressGain makeup level x ⌝ }
+{
+    x * dsp::pow10(level) * makeup
+}
+
 pub fn compress(
     at: f32,
     rt: f32,
@@ -306,11 +324,9 @@ pub fn compress(
 ) -> Compressed
     ensures { λ r. ⌜ r ≡ compressOf at rt threshold ratio makeup env x ⌝ }
 {
-    let e = follow(at, rt, env, float::abs(x));
-    let db = 20.0 * dsp::log10(float::max(e, 1e-9));
-    let g = dsp::powf(10.0, reduction(threshold, ratio, db) / 20.0);
+    let l = compress_level(at, rt, threshold, ratio, env, x);
     Compressed {
-        out: x * g * makeup,
-        env: e,
+        out: compress_gain(makeup, l.out, x),
+        env: l.env,
     }
 }

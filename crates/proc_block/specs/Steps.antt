@@ -7,7 +7,7 @@ use Rattle.dsl.specs.declared.DriveShape.{DriveShape}
 use Rattle.render.specs.declared.FilterKind.{FilterKind}
 use Rattle.proc.specs.declared.Filter.{Filter}
 use Rattle.proc.specs.declared.Drive.{Drive}
-use Rattle.proc.specs.Effects.{gainOf, filterOf, driveStep, drivePlain, tremoloOf, compressOf}
+use Rattle.proc.specs.Effects.{gainOf, filterOf, driveStep, drivePlain, tremoloOf, compressLevel, compressGain, compressOf}
 
 unfoldable pub gainStep : List Float → List Float → ℕ → Unit {0} → Float × Unit {0}
 gainStep xs amount k s = (gainOf (at amount k) (at xs k), s)
@@ -26,3 +26,10 @@ tremoloStep xs rate depth srf t k s = (tremoloOf rate depth srf (t + k) (at xs k
 
 unfoldable pub compressStep : List Float → Float → Float → Float → Float → Float → ℕ → Float → Float × Float
 compressStep xs attack release threshold ratio makeup k env = let r = compressOf attack release threshold ratio makeup env (at xs k) in (r .out, r .env)
+
+-- its two passes
+unfoldable pub levelStep : List Float → Float → Float → Float → Float → ℕ → Float → Float × Float
+levelStep xs attack release threshold ratio k env = let r = compressLevel attack release threshold ratio env (at xs k) in (r .out, r .env)
+
+unfoldable pub levelGainStep : List Float → List Float → Float → ℕ → Unit {0} → Float × Unit {0}
+levelGainStep xs levels makeup k s = (compressGain makeup (at levels k) (at xs k), s)

@@ -3,7 +3,7 @@ ghost use mathlib.Core.Path.{_≡_};
 ghost use Prim.Native.Nat.{_+_, _^_, _≤_, _<_};
 ghost use lib.ListN.{length};
 ghost use Rattle.block.specs.Iterate.{given, after};
-ghost use Rattle.proc_block.specs.Steps.{gainStep, filterStep, driveStepAt, drivePlainStep, tremoloStep, compressStep};
+ghost use Rattle.proc_block.specs.Steps.{gainStep, filterStep, driveStepAt, drivePlainStep, tremoloStep, compressStep, levelStep, levelGainStep};
 
 pub fn gain_block(out: &mut [f32], amount: &[f32])
     requires { ⌜ (length (now out) ≤ length (now amount)) ⌝ }
@@ -82,8 +82,63 @@ pub fn tremolo_block(out: &mut [f32], rate: f32, depth: f32, srf: f32, t: u64)
     }
 }
 
-// at, rt and makeup are the cells that the voice was built with.
-pub fn compress_block(
+// ---- Compress, in two passes: a sample's logarithm and its power are a long chain each, and in a loop of its own more of them
+// overlap.
+
+fn compress_levels(
+    levels: &mut [f32],
+    xs: &[f32],
+    at: f32,
+    rt: f32,
+    threshold: f32,
+    ratio: f32,
+    env: f32,
+) -> f32
+    requires { ⌜ (length (now levels) ≤ length (now xs)) ⌝ }
+    ensures { λ v. ⌜ (now (levels .exit) ≡ given (levelStep (now (xs .entry)) at rt threshold ratio) env (length (now (levels .entry)))) × (v ≡ after (levelStep (now (xs .entry)) at rt threshold ratio) env (length (now (levels .entry)))) ⌝ }
+{
+    let mut p = env;
+    let mut k: usize = 0;
+    while k < levels.len() {
+        let r = proc::compress_level(at, rt, threshold, ratio, p, xs[k]);
+        levels[k] = r.out;
+        p = r.env;
+        k += 1;
+    }
+    p
+}
+
+fn compress_gains(out: &mut [f32], levels: &[f32], makeup: f32)
+    requires { ⌜ (length (now out) ≤ length (now levels)) ⌝ }
+    ensures { λ v. ⌜ (now (out .exit) ≡ given (levelGainStep (now (out .entry)) (now (levels .entry)) makeup) tt (length (now (out .entry)))) ⌝ }
+{
+    let mut k: usize = 0;
+    while k < out.len() {
+        out[k] = proc::compress_gain(makeup, levels[k], out[k]);
+        k += 1;
+    }
+}
+
+fn compress_by(
+    out: &mut [f32],
+    levels: &mut [f32],
+    at: f32,
+    rt: f32,
+    threshold: f32,
+    ratio: f32,
+    makeup: f32,
+    env: f32,
+) -> f32
+    requires { ⌜ length (now levels) ≡ length (now out) ⌝ }
+    ensures { λ v. ⌜ (now (out .exit) ≡ given (compressStep (now (out .entry)) at rt threshold ratio makeup) env (length (now (out .entry)))) × (v ≡ after (compressStep (now (out .entry)) at rt threshold ratio makeup) env (length (now (out .entry)))) ⌝ }
+{
+    let e = compress_levels(levels, out, at, rt, threshold, ratio, env);
+    compress_gains(out, levels, makeup);
+    e
+}
+
+// A block of any length, in one pass.
+fn compress_long(
     out: &mut [f32],
     at: f32,
     rt: f32,
@@ -103,4 +158,24 @@ pub fn compress_block(
         k += 1;
     }
     p
+}
+
+// at, rt and makeup are the cells that the voice was built with.
+pub fn compress_block(
+    out: &mut [f32],
+    at: f32,
+    rt: f32,
+    threshold: f32,
+    ratio: f32,
+    makeup: f32,
+    env: f32,
+) -> f32
+    ensures { λ v. ⌜ (now (out .exit) ≡ given (compressStep (now (out .entry)) at rt threshold ratio makeup) env (length (now (out .entry)))) × (v ≡ after (compressStep (now (out .entry)) at rt threshold ratio makeup) env (length (now (out .entry)))) ⌝ }
+{
+    let n = out.len();
+    if n <= 256 {
+        let mut levels = [0.0f32; 256];
+        return compress_by(out, &mut levels[..n], at, rt, threshold, ratio, makeup, env);
+    }
+    compress_long(out, at, rt, threshold, ratio, makeup, env)
 }

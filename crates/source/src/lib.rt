@@ -1,5 +1,10 @@
 // The sources for one sample: values in, a struct of the sample and the new state out.
 ghost use mathlib.Core.Path.{_≡_};
+ghost use mathlib.Core.Bool.{cond};
+ghost use lib.Ieee as Ieee;
+ghost use lib.Ieee.{neg};
+ghost use Rattle.float.specs.Order.{clampOf};
+ghost use Rattle.float.specs.Single.{one};
 ghost use Rattle.source.specs.Oscillators.{increment, hertz, advance, sineOf, pulseLevel, pulse, squareOf, sawAt, sawOf, halfPulse, triangleOf, fmOf, superVoice};
 ghost use Rattle.source.specs.Others.{impactWidth, impactNorm, impactOf, envOf, whiteOf, pinkOf, brownOf, dustChance, dustDecay, dustOf};
 
@@ -221,13 +226,27 @@ pub fn pink(word: u64, poles: Poles) -> PinkOut
     }
 }
 
+fn least(x: f32) -> f32
+    ensures { λ r. ⌜ r ≡ cond (Ieee.lt x (neg one)) (neg one) x ⌝ }
+{
+    if x < -1.0 { -1.0 } else { x }
+}
+
+// Into [-1, 1], one bound after the other: a maximum and a minimum, each an instruction.
+fn bounded(x: f32) -> f32
+    ensures { λ r. ⌜ r ≡ clampOf x (neg one) one ⌝ }
+{
+    let y = least(x);
+    if y > 1.0 { 1.0 } else { y }
+}
+
 pub fn brown(word: u64, last: f32) -> BrownOut
     ensures { λ r. ⌜ r ≡ brownOf word last ⌝ }
 {
     let d = dsp::bi(word);
     let l = (last + 0.02 * d.x) * 0.998;
     BrownOut {
-        out: float::clamp(l * 8.0, -1.0, 1.0),
+        out: bounded(l * 8.0),
         word: d.state,
         last: l,
     }

@@ -4,7 +4,7 @@ ghost use mathlib.Core.Path.{_≡_};
 ghost use Prim.Native.Nat.{_+_, _^_, _≤_, _<_};
 ghost use lib.ListN.{length};
 ghost use Rattle.block.specs.Iterate.{given, after};
-ghost use Rattle.source_block.specs.Steps.{sineStep, squareStep, sawStep, triangleStep, fmStep, whiteStep, pinkState, pinkStep, brownStep, dustStep, impactStep, envStep};
+ghost use Rattle.source_block.specs.Steps.{sineStep, squareStep, sawStep, triangleStep, fmStep, whiteStep, pinkState, pinkStep, brownStep, dustStep, impactStep, silentStep, envStep};
 
 pub struct Triangle {
     pub phase: f32,
@@ -176,8 +176,7 @@ pub fn dust_block(out: &mut [f32], chance: f32, decay: f32, s: Dust) -> Dust
     p
 }
 
-// w and norm are `impact_width` and `impact_norm` of the sheet, worked out once.
-pub fn impact_block(out: &mut [f32], w: u64, norm: f32, t: u64)
+fn impact_samples(out: &mut [f32], w: u64, norm: f32, t: u64)
     requires { ⌜ (t + length (now out) < 2 ^ 64) ⌝ }
     ensures { λ v. ⌜ (now (out .exit) ≡ given (impactStep w norm t) tt (length (now (out .entry)))) ⌝ }
 {
@@ -185,6 +184,28 @@ pub fn impact_block(out: &mut [f32], w: u64, norm: f32, t: u64)
     while k < out.len() {
         out[k] = source::impact(w, norm, t + (k as u64));
         k += 1;
+    }
+}
+
+fn silence(out: &mut [f32])
+    ensures { λ v. ⌜ (now (out .exit) ≡ given silentStep tt (length (now (out .entry)))) ⌝ }
+{
+    let mut k: usize = 0;
+    while k < out.len() {
+        out[k] = 0.0;
+        k += 1;
+    }
+}
+
+// w and norm are `impact_width` and `impact_norm` of the sheet, worked out once. From w on there is nothing to compare.
+pub fn impact_block(out: &mut [f32], w: u64, norm: f32, t: u64)
+    requires { ⌜ (t + length (now out) < 2 ^ 64) ⌝ }
+    ensures { λ v. ⌜ (now (out .exit) ≡ given (impactStep w norm t) tt (length (now (out .entry)))) ⌝ }
+{
+    if t < w {
+        impact_samples(out, w, norm, t);
+    } else {
+        silence(out);
     }
 }
 

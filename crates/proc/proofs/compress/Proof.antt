@@ -6,16 +6,7 @@ use Rattle.proc.proofs.compress.Tie as tie
 
 returns : tie.Need-returns
 unfolding compressOf
-returns c = rw (c .powf .ensures, c .before .reduction .ensures, c .before .before .log10 .ensures, c .before .before .before .max .ensures, c .before .before .before .before .follow .ensures, c .before .before .before .before .before .abs .ensures)
+returns c = rw (c .compress-gain .ensures, c .before .compress-level .ensures)
 
 pub compress-spec : {M : Type 1} → statement M
-compress-spec =
-    tie.close
-    (tie.spec
-    (λ c κs. search needs)
-    (λ c κs. search needs)
-    (λ c κs. search needs)
-    (λ c κs. search needs)
-    (λ c κs. search needs)
-    (λ c κs. search needs)
-    returns)
+compress-spec = tie.close (tie.spec (λ c κs. search needs) (λ c κs. search needs) returns)

@@ -6,7 +6,7 @@ use Rattle.source.proofs.brown.Tie as tie
 
 returns : tie.Need-returns
 unfolding brownOf
-returns c = rw (c .clamp .ensures, c .before .before .bi .ensures)
+returns c = rw (c .bounded .ensures, c .before .before .bi .ensures)
 
 pub brown-spec : {M : Type 1} → statement M
 brown-spec = tie.close (tie.spec (λ c κs. search needs) (λ c κs. search needs) returns)

@@ -1,46 +1,31 @@
 -- `source_block::impact_block` meets its contract. Assumes nothing.
-use mathlib.Core.Path.{refl}
-use Prim.Native.Nat.{_-_}
+use mathlib.Core.Path.{_≡_, sym, _∙_}
+use Prim.Native.Nat.{ℕ, _+_, _≤_}
 use native.Mathlib.Omega.{arith}
 use lib.ListN.{length}
-use lib.Ieee.{nan}
-use Rattle.block.specs.Loop.{Going, going-start, going-turn, going-end}
-use Rattle.source_block.specs.Steps.{impactStep}
+use lib.Ieee.{Float}
+use borrow.Author.Tests.{le-ltb}
 use borrow.Author.Needs.{needs}
+use Rattle.block.specs.Iterate.{given, given-same}
+use Rattle.source.specs.Others.{impactOf}
+use Rattle.source_block.specs.Steps.{impactStep, silentStep}
 use Rattle.source_block.proofs.impact_block.Statement.{statement}
 use Rattle.source_block.proofs.impact_block.Tie as tie
 
-abbrev Inv-loop : tie.InvT-loop
-Inv-loop out₀ w norm t k₀ out k = Going nan (impactStep w norm t) tt out₀ k out tt
+over : (w t k : ℕ) → w ≤ t → w ≤ t + k
+over w t k h = omega arith
 
-abbrev μ-loop : tie.MeasureT-loop
-μ-loop out₀ w norm t k₀ out k = length out₀ - k
+one-over : (w : ℕ) (norm : Float) (t : ℕ) → w ≤ t → (k : ℕ) (u : Unit {0}) → silentStep k u ≡ impactStep w norm t k u
+unfolding silentStep impactStep impactOf
+one-over w norm t h k u = rw (le-ltb _ _ (over w t k h))
 
-loop-holds : tie.Need-loop-holds Inv-loop μ-loop
-loop-holds c = going-start nan _ _ _
+silent : (w : ℕ) (norm : Float) (t : ℕ) → w ≤ t → (n : ℕ) → given silentStep tt n ≡ given (impactStep w norm t) tt n
+silent w norm t h n = given-same silentStep (impactStep w norm t) tt n (λ k _ u. one-over w norm t h k u)
 
-loop-again : tie.Need-loop-again Inv-loop μ-loop
-unfolding impactStep
-loop-again c =
-    let l = c .before .before .loop in
-    going-turn nan _ _ _ (l .inv) (omega arith) (c .impact .ensures) (refl)
-
-returns : tie.Need-returns Inv-loop μ-loop
-returns c = (going-end nan _ _ _ (c .before .loop .inv) (omega arith)) .0
+returns-2 : tie.Need-returns-2
+returns-2 c =
+    let a = c .before .before .before .before .before .before .args in
+    c .before .before .silence .ensures ∙ silent (a .w) (a .norm) (a .t) (c .before .before .before .before .if1 .left) (length (a .out .now))
 
 pub impact-block-spec : {M : Type 1} → statement M
-impact-block-spec =
-    tie.close
-    (tie.spec
-    Inv-loop
-    μ-loop
-    loop-holds
-    (λ c. search needs)
-    (λ c κs. search needs)
-    (λ c. search needs)
-    (λ c. search needs)
-    (λ c. search needs)
-    (λ c. search needs)
-    loop-again
-    (λ c. search needs)
-    returns)
+impact-block-spec = tie.close (tie.spec (λ c κs. search needs) (λ c κs. search needs) (λ c. search needs) (λ c. search needs) (λ c. search needs) returns-2)

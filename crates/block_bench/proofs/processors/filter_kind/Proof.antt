@@ -1,0 +1,37 @@
+-- `block_bench::processors::filter_kind` meets its contract. Assumes nothing.
+use borrow.Author.Tests.{eq-eqb, ne-eqb}
+use Rattle.block_bench.specs.State.{kindOf}
+use Rattle.block_bench.proofs.processors.filter_kind.Statement.{statement}
+use Rattle.block_bench.proofs.processors.filter_kind.Tie as tie
+
+returns : tie.Need-returns
+unfolding kindOf
+returns c = rw (eq-eqb _ _ (c .if1 .taken))
+
+returns-2 : tie.Need-returns-2
+unfolding kindOf
+returns-2 c = rw (ne-eqb _ _ (c .before .if1 .left), eq-eqb _ _ (c .if2 .taken))
+
+returns-3 : tie.Need-returns-3
+unfolding kindOf
+returns-3 c = rw (ne-eqb _ _ (c .before .before .if1 .left), ne-eqb _ _ (c .before .if2 .left), eq-eqb _ _ (c .if3 .taken))
+
+returns-4 : tie.Need-returns-4
+unfolding kindOf
+returns-4 c = rw (ne-eqb _ _ (c .before .before .before .if1 .left), ne-eqb _ _ (c .before .before .if2 .left), ne-eqb _ _ (c .before .if3 .left), eq-eqb _ _ (c .if4 .taken))
+
+returns-5 : tie.Need-returns-5
+unfolding kindOf
+returns-5 c = rw (ne-eqb _ _ (c .before .before .before .before .if1 .left), ne-eqb _ _ (c .before .before .before .if2 .left), ne-eqb _ _ (c .before .before .if3 .left), ne-eqb _ _ (c .before .if4 .left), eq-eqb _ _ (c .if5 .taken))
+
+returns-6 : tie.Need-returns-6
+unfolding kindOf
+returns-6 c = rw (ne-eqb _ _ (c .before .before .before .before .before .if1 .left), ne-eqb _ _ (c .before .before .before .before .if2 .left), ne-eqb _ _ (c .before .before .before .if3 .left), ne-eqb _ _ (c .before .before .if4 .left), ne-eqb _ _ (c .before .if5 .left), eq-eqb _ _ (c .if6 .taken))
+
+returns-7 : tie.Need-returns-7
+unfolding kindOf
+returns-7 c = rw (ne-eqb _ _ (c .before .before .before .before .before .if1 .left), ne-eqb _ _ (c .before .before .before .before .if2 .left), ne-eqb _ _ (c .before .before .before .if3 .left), ne-eqb _ _ (c .before .before .if4 .left), ne-eqb _ _ (c .before .if5 .left), ne-eqb _ _ (c .if6 .left))
+
+pub filter-kind-spec : {M : Type 1} → statement M
+filter-kind-spec =
+    tie.close (tie.spec returns returns-2 returns-3 returns-4 returns-5 returns-6 returns-7)

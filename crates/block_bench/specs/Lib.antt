@@ -1,0 +1,2 @@
+-- The states of the exported kernels, read from their cells and registers.
+pub mod State

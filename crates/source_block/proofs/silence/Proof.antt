@@ -1,0 +1,44 @@
+-- `source_block::silence` meets its contract. Assumes nothing.
+use mathlib.Core.Path.{refl}
+use Prim.Native.Nat.{_-_}
+use native.Mathlib.Omega.{arith}
+use lib.ListN.{length}
+use lib.Ieee.{nan}
+use Rattle.block.specs.Loop.{Going, going-start, going-turn, going-end}
+use Rattle.source_block.specs.Steps.{silentStep}
+use borrow.Author.Needs.{needs}
+use Rattle.source_block.proofs.silence.Statement.{statement}
+use Rattle.source_block.proofs.silence.Tie as tie
+
+abbrev Inv-loop : tie.InvT-loop
+Inv-loop out₀ k₀ out k = Going nan silentStep tt out₀ k out tt
+
+abbrev μ-loop : tie.MeasureT-loop
+μ-loop out₀ k₀ out k = length out₀ - k
+
+loop-holds : tie.Need-loop-holds Inv-loop μ-loop
+loop-holds c = going-start nan _ _ _
+
+loop-again : tie.Need-loop-again Inv-loop μ-loop
+unfolding silentStep
+loop-again c =
+    let l = c .before .loop in
+    going-turn nan _ _ _ (l .inv) (omega arith) (refl) (refl)
+
+returns : tie.Need-returns Inv-loop μ-loop
+returns c = (going-end nan _ _ _ (c .before .loop .inv) (omega arith)) .0
+
+pub silence-spec : {M : Type 1} → statement M
+silence-spec =
+    tie.close
+    (tie.spec
+    Inv-loop
+    μ-loop
+    loop-holds
+    (λ c. search needs)
+    (λ c. search needs)
+    (λ c. search needs)
+    (λ c. search needs)
+    loop-again
+    (λ c. search needs)
+    returns)
