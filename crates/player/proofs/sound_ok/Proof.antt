@@ -1,0 +1,40 @@
+use mathlib.Core.Path.{_≡_, refl, sym, ap, _∙_}
+use Prim.Native.Nat.{_+_, _≤_, _<_}
+use native.Mathlib.Omega.{arith}
+use lib.ListN.{length}
+use Rattle.machine.specs.Laws.{room-enough, room-passed}
+use Rattle.player.specs.Calls.{sound-early, sound-late}
+use borrow.Author.Needs.{needs}
+use Rattle.player.proofs.sound_ok.Statement.{statement}
+use Rattle.player.proofs.sound_ok.Tie as tie
+use Rattle.player.proofs.sound_ok.Reads as reads
+use Rattle.player.proofs.sound_ok.Lts as lts
+use Rattle.state.proofs.rings_ok.Reads as rings-ok-reads
+
+-- src/lib.rt:170:9
+returns : tie.Need-returns
+returns c = let s = (c .before .before .before .before .before .before .before .before .before .before .before .before .before) in
+    let S = s .args .sheet .now in
+    let m = s .pre .0 in
+    let room = s .pre .1 in
+    sym (sound-late S (s .args .c) _ _ ((c .if1) .taken))
+
+-- src/lib.rt:172:5
+rings-ok-requires : tie.Need-rings-ok-requires
+rings-ok-requires c κs = let s = (c .before .before .before .before .before .before .before .before .before .before .before .before .before) in
+    let S = s .args .sheet .now in
+    let m = s .pre .0 in
+    let room = s .pre .1 in
+    let r = room-enough S _ _ _ (room-passed S _ _ _ room .1) in
+    (m .passed, m .act-at, m .cells-at, m .registers-at, rw (m .passed .count) (r .cells), rw (m .passed .count) (r .registers))
+
+-- src/lib.rt:150:1
+returns-2 : tie.Need-returns-2
+returns-2 c = let s = (c .before .before .before .before .before .before .before .before .before .before .before .before .before .before) in
+    let S = s .args .sheet .now in
+    let m = s .pre .0 in
+    let room = s .pre .1 in
+    (c .rings-ok) .ensures ∙ sym (sound-early S (s .args .c) _ _ ((c .before .if1) .left))
+
+pub sound-ok-spec : {M : Type 1} → statement M
+sound-ok-spec = tie.close (tie.spec returns rings-ok-requires returns-2)

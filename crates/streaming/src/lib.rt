@@ -1,0 +1,158 @@
+// Samples in any number, a block of at most 256 at a time: the pitch of each sample first, then the walk over the records.
+ghost use mathlib.Core.Path.{_≡_};
+ghost use Prim.Native.Nat.{_+_, _^_, _≤_, _<_};
+ghost use lib.ListN.{length};
+ghost use Rattle.tree.specs.Comm.{later};
+ghost use Rattle.control.specs.Moves.{moved, risen};
+ghost use Rattle.unit.specs.Block.{Pitched};
+ghost use Rattle.walk.specs.Walk.{Sound};
+ghost use Rattle.machine.specs.Samples.{tick};
+ghost use Rattle.streaming.specs.Run.{Set, Blocked};
+
+// The controls of a sample: the pitch has moved.
+fn glide_on(c: control::Controls) -> control::Controls
+    ensures { λ r. ⌜ r ≡ moved c ⌝ }
+{
+    control::Controls {
+        position: c.position,
+        pitch: control::glide_step(c.pitch, c.target, c.glide),
+        target: c.target,
+        glide: c.glide,
+        bend: c.bend,
+    }
+}
+
+fn rise(c: control::Controls) -> control::Controls
+    requires { ⌜ c .position + 1 < 2 ^ 64 ⌝ }
+    ensures { λ r. ⌜ r ≡ risen c ⌝ }
+{
+    control::Controls {
+        position: c.position + 1,
+        pitch: c.pitch,
+        target: c.target,
+        glide: c.glide,
+        bend: c.bend,
+    }
+}
+
+// What the sources read for the pitch of each sample; returns the controls after the last.
+fn glide_block(first: control::Controls, pitch: &mut [f32]) -> control::Controls
+    requires { ⌜ first .position + length (now pitch) ≤ 2 ^ 62 ⌝ }
+    ensures { λ r. ⌜ (r ≡ later tick (length (now (pitch .entry))) first) × Pitched (moved first) (now (pitch .exit)) (length (now (pitch .entry))) ⌝ }
+{
+    let mut c = first;
+    let mut k: usize = 0;
+    while k < pitch.len() {
+        let m = glide_on(c);
+        pitch[k] = m.pitch * m.bend;
+        c = rise(m);
+        k += 1;
+    }
+    c
+}
+
+// One block: v, w and pitch are buffers of its length.
+fn block(
+    sheet: &[u8],
+    count: usize,
+    nexts: &[usize],
+    acts: &[u8],
+    begins: &[usize],
+    afters: &[usize],
+    places: &[usize],
+    words: &[usize],
+    blocks: &[usize],
+    c: control::Controls,
+    out: &mut [f32],
+    v: &mut [f32],
+    w: &mut [f32],
+    pitch: &mut [f32],
+    cells: &mut [f32],
+    regs: &mut [u64],
+    scr: &mut [f32],
+) -> control::Controls
+    requires { ⌜ Set (now sheet) count (now nexts) (now acts) (now begins) (now afters) (now places) (now words) (now blocks) (length (now scr)) × Sound (now sheet) (now cells) (now regs) × (length (now out) ≤ 256) × (length (now v) ≡ length (now out)) × (length (now w) ≡ length (now out)) × (length (now pitch) ≡ length (now out)) × (c .position + length (now out) ≤ 2 ^ 62) ⌝ }
+    ensures { λ r. ⌜ (r .position ≡ c .position + length (now (out .entry))) × Blocked (now (sheet .entry)) (length (now (out .entry))) c (now (cells .entry)) (now (regs .entry)) (now (scr .entry)) r (now (out .exit)) (now (cells .exit)) (now (regs .exit)) (now (scr .exit)) ⌝ }
+{
+    let r = glide_block(c, pitch);
+    walk::fill_block(out, 0.0);
+    walk::source(
+        sheet,
+        count,
+        nexts,
+        acts,
+        begins,
+        afters,
+        places,
+        words,
+        blocks,
+        0,
+        glide_on(c),
+        out,
+        v,
+        w,
+        pitch,
+        cells,
+        regs,
+        scr,
+    );
+    r
+}
+
+fn chunk(n: usize) -> usize
+    ensures { λ r. ⌜ (r ≤ n) × (r ≤ 256) × (0 < n → 0 < r) ⌝ }
+{
+    if n < 256 { n } else { 256 }
+}
+
+// As many samples as out has; v, w and pitch are buffers of a block.
+pub fn run(
+    sheet: &[u8],
+    count: usize,
+    nexts: &[usize],
+    acts: &[u8],
+    begins: &[usize],
+    afters: &[usize],
+    places: &[usize],
+    words: &[usize],
+    blocks: &[usize],
+    first: control::Controls,
+    out: &mut [f32],
+    v: &mut [f32],
+    w: &mut [f32],
+    pitch: &mut [f32],
+    cells: &mut [f32],
+    regs: &mut [u64],
+    scr: &mut [f32],
+) -> control::Controls
+    requires { ⌜ Set (now sheet) count (now nexts) (now acts) (now begins) (now afters) (now places) (now words) (now blocks) (length (now scr)) × Sound (now sheet) (now cells) (now regs) × (256 ≤ length (now v)) × (256 ≤ length (now w)) × (256 ≤ length (now pitch)) × (first .position + length (now out) ≤ 2 ^ 62) ⌝ }
+    ensures { λ r. ⌜ Blocked (now (sheet .entry)) (length (now (out .entry))) first (now (cells .entry)) (now (regs .entry)) (now (scr .entry)) r (now (out .exit)) (now (cells .exit)) (now (regs .exit)) (now (scr .exit)) ⌝ }
+{
+    let mut c = first;
+    let mut d: usize = 0;
+    while d < out.len() {
+        let m = chunk(out.len() - d);
+        let e = d + m;
+        c = block(
+            sheet,
+            count,
+            nexts,
+            acts,
+            begins,
+            afters,
+            places,
+            words,
+            blocks,
+            c,
+            &mut out[d..e],
+            &mut v[..m],
+            &mut w[..m],
+            &mut pitch[..m],
+            cells,
+            regs,
+            scr,
+        );
+        d = e;
+    }
+    c
+}
