@@ -8,7 +8,7 @@ use native.Mathlib.Omega.{arith}
 use lib.Dec.{eqb, leb}
 use lib.ListN.{length, drop, replicate}
 use lib.Ieee.{Float}
-use borrow.Author.Tests.{eq-eqb, ne-eqb, leb-true, le-leb, lt-leb}
+use borrow.Author.Tests.{ne-eqb, leb-true, le-leb, lt-leb}
 use Rattle.control.specs.declared.Controls.{Controls}
 use Rattle.control.specs.Moves.{leftFor}
 use Rattle.sheet.specs.Record.{countOf, first, next}
@@ -19,10 +19,10 @@ use Rattle.layout.specs.Tables.{Table, Passed, roleCode}
 use Rattle.unit.specs.Unit.{silence}
 use Rattle.unit.specs.State.{ringsOk}
 use Rattle.walk.specs.Walk.{voiced, Sound}
-use Rattle.machine.specs.Machine.{State, state, roomOk, soundOk, roomCheck, fillCheck, samples, Answered, cleared, fillOf, scaled}
+use Rattle.machine.specs.Machine.{State, state, soundOk, roomCheck, fillCheck, samples, Answered, cleared, fillOf, scaled}
 use Rattle.machine.specs.Laws.{room-enough, room-passed}
 use Rattle.machine.specs.Valid.{rings-all}
-use Rattle.machine.specs.Build.{buildOf, startedCells, startedRegisters, begun}
+use Rattle.machine.specs.Build.{buildOf, startedCells, startedRegisters}
 use Rattle.control.specs.Moves.{fresh}
 use Rattle.streaming.specs.Run.{Set, Blocked}
 

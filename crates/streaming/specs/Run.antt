@@ -1,12 +1,12 @@
 -- A run of samples, block by block: what is made and left is what the sample machine makes and leaves, whatever the scratch held.
 use mathlib.Core.Path.{_≡_, refl, sym, ap, _∙_}
-use mathlib.Core.List.{List, [], _∷_, _++_, map}
+use mathlib.Core.List.{List, _∷_, _++_, map}
 use Prim.Native.Nat.{ℕ, zero, suc, _+_, _-_, _^_, _≤_, _<_}
 use native.Mathlib.Nat.{add-zero}
 use native.Mathlib.Numerals.{add-one}
 use native.Mathlib.Omega.{arith}
 use native.Mathlib.Decide.{ℕ-discrete}
-use lib.ListN.{length, getD, set, take, drop, length-set, length-drop, length-append, replicate}
+use lib.ListN.{length, set, take, drop, length-set, length-drop, length-append, replicate}
 use lib.Seq.{length-take-le, take-at, take-all, take-append-add, getD-set-same, getD-set-other}
 use lib.Ieee.{Float, nan}
 use Rattle.tree.specs.Comm.{M, later}
@@ -14,7 +14,7 @@ use Rattle.tree.specs.Lists.{map-const}
 use Rattle.block.specs.Iterate.{at}
 use Rattle.block.specs.Patch.{source}
 use Rattle.control.specs.declared.Controls.{Controls}
-use Rattle.control.specs.Moves.{moved, following, bent}
+use Rattle.control.specs.Moves.{moved, bent}
 use Rattle.sheet.specs.Record.{countOf, next}
 use Rattle.layout.specs.Built.{role, begin, after}
 use Rattle.layout.specs.Needs.{cellsFrom, registersFrom, scratchFrom}

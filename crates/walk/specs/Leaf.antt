@@ -7,28 +7,27 @@ use Prim.Native.Nat.{ℕ, zero, suc, _+_, _-_, _≤_, _<_}
 use native.Mathlib.Omega.{arith}
 use native.Mathlib.Decide.{ℕ-discrete}
 use lib.ListN.{length, length-map}
-use lib.Ieee.{Float, nan}
+use lib.Ieee.{Float}
 use Rattle.tree.specs.Tree.{leaf}
 use Rattle.tree.specs.Flat.{own, put, put-own}
 use Rattle.tree.specs.Block.{tab}
 use Rattle.tree.specs.Lists.{tab-const}
 use Rattle.block.specs.Iterate.{given, after, samples, samples-same}
-use Rattle.block.specs.Patch.{Valid, All, Room, Long, played, played-long, room-long, steps, leaf-none, leaf-one, leaf-two, played-all}
+use Rattle.block.specs.Patch.{All, played, steps, leaf-none, leaf-one, leaf-two, played-all}
 use Rattle.control.specs.declared.Controls.{Controls}
 use Rattle.sheet.specs.Record.{countOf, kind}
 use Rattle.sheet.specs.Kinds.{Chain, empty, values, nodes, modes, steps as stepsOf, rowOf, isFold, isValue}
 use Rattle.layout.specs.Built.{Role, out, silent, role, built, isBuilt, begin, after as afterOf}
 use Rattle.layout.specs.Good.{good}
-use Rattle.layout.specs.Tables.{Table, Passed, roleCode}
+use Rattle.layout.specs.Tables.{roleCode}
 use Rattle.layout.specs.Counts.{layoutOf}
 use Rattle.layout.specs.Contents.{Value, one-value, two-values, no-links}
 use Rattle.unit.specs.Own.{Own}
 use Rattle.unit.specs.Unit.{silence, unitOf}
 use Rattle.unit.specs.Voice.{voice, treeKind, entered, playing}
 use Rattle.unit.specs.Sound.{OwnSound}
-use Rattle.unit.specs.Block.{Pitched}
-use Rattle.units.specs.Values.{valuesIn, valuesOf, buffersOf, hasUnit, Quiet, leaf-chain, leaf-quiet, leaf-most, leaf-values, value-quiet, value-unit, node-unit}
-use Rattle.walk.specs.Nodes.{Node, value-blind}
+use Rattle.units.specs.Values.{valuesOf, buffersOf, hasUnit, leaf-chain, leaf-quiet, leaf-most, leaf-values, value-quiet}
+use Rattle.walk.specs.Nodes.{value-blind}
 use Rattle.walk.specs.Walk.{Sound, Voiced, Ready, Lends, Played, Leafed}
 
 -- ---- steps without a state

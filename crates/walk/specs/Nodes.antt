@@ -1,30 +1,27 @@
 -- What the walk knows of the records that it comes to: they are nodes, and they play.
 use mathlib.Core.Path.{_≡_, refl, sym, ap, _∙_}
 use mathlib.Core.Bool.{Bool, true, false, cond, _&&_, _||_}
-use mathlib.Core.List.{List, [], _∷_, map}
+use mathlib.Core.List.{List, [], _∷_}
 use mathlib.Core.Logic.{_≢_}
-use Prim.Native.Nat.{ℕ, zero, suc, _<_}
+use Prim.Native.Nat.{ℕ, _<_}
 use native.Mathlib.Omega.{arith}
 use native.Mathlib.Decide.{ℕ-discrete}
 use lib.Dec.{eqb, leb, ltb}
 use lib.Ieee.{Float}
-use lib.ListN.{length}
-use borrow.Author.Tests.{eq-eqb, ne-eqb, leb-true, lt-leb, le-ltb, eqb-true}
+use borrow.Author.Tests.{ne-eqb, leb-true, le-ltb, eqb-true}
 use Rattle.control.specs.declared.Controls.{Controls}
 use Rattle.sheet.specs.Record.{countOf, kind, next}
 use Rattle.sheet.specs.Kinds.{nodes, rowOf, lookup, isNode, isProcessor, isFold, isValue}
-use Rattle.sheet.specs.Checks.{checkOf}
 use Rattle.sheet.specs.Laws.{never, both}
 use Rattle.layout.specs.Built.{owner, trailing, Role, out, silent, built, roleIn, role, isBuilt, isPlayed, begin, after}
-use Rattle.layout.specs.Good.{Good, good}
+use Rattle.layout.specs.Good.{Good}
 use Rattle.layout.specs.Needs.{needs, needOf, scratchBy, scratch}
 use Rattle.layout.specs.Owners.{owner-next}
-use Rattle.layout.specs.Roles.{role-root, role-in, begin-built, next-played, after-played}
+use Rattle.layout.specs.Roles.{role-root, role-in, begin-built, next-played}
 use Rattle.layout.specs.Played.{begin-owner, begin-in, begin-played, after-is, after-in}
 use Rattle.layout.specs.Contents.{in-nodes}
 use Rattle.sheet.specs.declared.Value.{Value}
 use Rattle.sheet.specs.declared.Value.the-variants.{Const, Slide, Lfo, Arp, EnvMod, Rand}
-use Rattle.sheet.specs.Value.{valueOf}
 use Rattle.unit.specs.Own.{Own}
 use Rattle.unit.specs.Values.{valueUnit, randUnit}
 use Rattle.unit.specs.Unit.{kindUnit, unitOf, silence}

@@ -1,10 +1,9 @@
 -- What the walk is lent for a block, and what it leaves: the block runs of the voice's theory (`source`, `along` and `played` of crate block's Patch).
 use mathlib.Core.Path.{_≡_, refl, sym, ap, ap₂, _∙_, subst, subst₃}
-use mathlib.Core.Bool.{Bool, true, false, cond}
+use mathlib.Core.Bool.{true, false, cond}
 use mathlib.Core.List.{List, [], _∷_, _++_, map}
 use mathlib.Core.Logic.{_≢_}
 use Prim.Native.Nat.{ℕ, zero, suc, _+_, _*_, _-_, _^_, _≤_, _<_}
-use native.Mathlib.Numerals.{add-one}
 use native.Mathlib.Omega.{arith}
 use native.Mathlib.Decide.{ℕ-discrete}
 use lib.Dec.{eqb}
@@ -16,24 +15,23 @@ use Rattle.tree.specs.Comm.{M, zip}
 use Rattle.tree.specs.Tree.{Mode, piping, joining, leaf, fold, chain, bstep, bone}
 use Rattle.tree.specs.Loop.{zip-length}
 use Rattle.tree.specs.Lists.{map-const, lay-part}
-use Rattle.tree.specs.Flat.{Fills}
-use Rattle.block.specs.Patch.{Valid, Long, All, source, along, played, along-none, along-some, source-all, source-long, source-length}
+use Rattle.block.specs.Patch.{Valid, All, source, along, played, along-none, along-some, source-all}
 use Rattle.control.specs.declared.Controls.{Controls}
 use Rattle.sheet.specs.Record.{countOf, kind, next}
 use Rattle.sheet.specs.Kinds.{nodes, rowOf, isFold}
-use Rattle.layout.specs.Built.{role, built, isBuilt, begin, after}
+use Rattle.layout.specs.Built.{role, built, begin, after}
 use Rattle.layout.specs.Needs.{cells, registers, scratch, cellsBy, registersBy, cellsFrom, registersFrom, scratchFrom}
 use Rattle.layout.specs.Tables.{Table, Passed, roleCode}
 use Rattle.layout.specs.Good.{good}
-use Rattle.layout.specs.Laws.{Playable, playable}
-use Rattle.layout.specs.Counts.{layoutOf, cells-built, registers-built}
+use Rattle.layout.specs.Laws.{playable}
+use Rattle.layout.specs.Counts.{cells-built, registers-built}
 use Rattle.sheet.specs.Laws.{sum-suc}
 use Rattle.unit.specs.Own.{Own, Ugen}
 use Rattle.unit.specs.Unit.{silence, kindUnit, unitOf}
 use Rattle.unit.specs.Voice.{voice, treeKind, entered, joinOf, emptyOf}
 use Rattle.unit.specs.State.{ownOk}
 use Rattle.unit.specs.Sound.{OwnSound, UnitsKeep, voice-valid, units-keep}
-use Rattle.unit.specs.Block.{Pitched, Ran, Lent}
+use Rattle.unit.specs.Block.{Pitched, Ran}
 use Rattle.units.specs.Values.{hasUnit}
 use Rattle.walk.specs.Nodes.{Member, begin-member, after-member}
 

@@ -1,7 +1,7 @@
+-- `performance::play` meets its contract. Assumes nothing.
 use mathlib.Core.Path.{_≡_, refl, sym, ap, _∙_}
 use Prim.Native.Nat.{ℕ, _-_, _+_, _≤_, _<_}
 use native.Mathlib.Omega.{arith}
-use borrow.Author.Tests.{eq-eqb, ne-eqb}
 use lib.ListN.{length, getD, take, drop, length-drop}
 use lib.Seq.{length-take-le}
 use lib.Ieee.{nan}
@@ -10,10 +10,6 @@ use Rattle.performance.specs.List.{Playing, play-start, play-turn, play-
 use borrow.Author.Needs.{needs}
 use Rattle.performance.proofs.play.Statement.{statement}
 use Rattle.performance.proofs.play.Tie as tie
-use Rattle.performance.proofs.play.Reads as reads
-use Rattle.performance.proofs.play.Lts as lts
-use Rattle.performance.proofs.one_call.Reads as one-call-reads
-use Rattle.performance.proofs.took.Reads as took-reads
 
 abbrev Inv-loop : tie.InvT-loop
 Inv-loop sheet kinds xs gs lens answers₀ out₀ cells₀ regs₀ scr₀ c₀ d₀ k₀ answers out cells regs scr c d k = (length cells ≡ length cells₀) × (length regs ≡ length regs₀) × (length scr ≡ length scr₀) × Playing sheet (callAt kinds xs gs lens) (lengthAt lens) c₀ out₀ cells₀ regs₀ scr₀ answers₀ c out cells regs scr answers d k
@@ -24,10 +20,6 @@ abbrev μ-loop : tie.MeasureT-loop
 -- src/lib.rt:77:5
 loop-holds : tie.Need-loop-holds Inv-loop μ-loop
 loop-holds c = (refl, refl, refl, play-start _ _ _ _ _ _ _ _ _)
-
--- src/lib.rt:78:20
-add-next : tie.Need-add-next Inv-loop μ-loop
-add-next c = search needs
 
 -- src/lib.rt:79:17
 mul-n : tie.Need-mul-n Inv-loop μ-loop
@@ -106,10 +98,6 @@ part-one-call-end c = let s = (c .before .before .before .before .before .before
     let w = play-room (lengthAt (s .args .lens .now)) (l .d) (l .k) (length (s .args .answers .now)) (length (s .args .out .now)) (l .inv .3 .spent) (omega (arith, l .inv .3 .long, (c .before .before .before .before .loop-test) .taken)) (s .pre .4) in
     omega (arith, l .inv .3 .outs, l .inv .3 .long, s .pre, (c .before .before .before .before .loop-test) .taken)
 
--- src/lib.rt:81:13
-one-call-requires : tie.Need-one-call-requires Inv-loop μ-loop
-one-call-requires c κs = search needs
-
 -- src/lib.rt:86:9
 slice-write-answers : tie.Need-slice-write-answers Inv-loop μ-loop
 slice-write-answers c = let s = (c .before .before .before .before .before .before .before .before .before .before .before .before .before .before .before .before .before .before .before .before .before .before .before .before .before .before .before .before .before .before) in
@@ -122,20 +110,12 @@ shared-slice-read-took c = let s = (c .before .before .before .before .before .b
     let l = (c .before .before .before .before .before .before .before .before .before .before .before .before .before .before .before .before .before .before .before .before .loop) in
     omega (arith, l .inv .3 .outs, l .inv .3 .long, s .pre, (c .before .before .before .before .before .before .before .before .before .before .before .before .before .before .before .before .before .before .before .loop-test) .taken)
 
--- src/lib.rt:87:17
-took-requires : tie.Need-took-requires Inv-loop μ-loop
-took-requires c κs = search needs
-
 -- src/lib.rt:87:13
 add-d : tie.Need-add-d Inv-loop μ-loop
 add-d c = let s = (c .before .before .before .before .before .before .before .before .before .before .before .before .before .before .before .before .before .before .before .before .before .before .before .before .before .before .before .before .before .before .before .before) in
     let l = (c .before .before .before .before .before .before .before .before .before .before .before .before .before .before .before .before .before .before .before .before .before .loop) in
     let w = play-room (lengthAt (s .args .lens .now)) (l .d) (l .k) (length (s .args .answers .now)) (length (s .args .out .now)) (l .inv .3 .spent) (omega (arith, l .inv .3 .long, (c .before .before .before .before .before .before .before .before .before .before .before .before .before .before .before .before .before .before .before .before .loop-test) .taken)) (s .pre .4) in
     omega (arith, l .inv .3 .outs, l .inv .3 .long, s .pre, (c .took) .ensures .1, (c .before .before .before .before .before .before .before .before .before .before .before .before .before .before .before .before .before .before .before .before .loop-test) .taken)
-
--- src/lib.rt:77:5
-loop-less : tie.Need-loop-less Inv-loop μ-loop
-loop-less c = search needs
 
 -- src/lib.rt:77:5
 loop-again : tie.Need-loop-again Inv-loop μ-loop
@@ -158,26 +138,6 @@ loop-again c = let s = (c .before .before .before .before .before .before .befor
     )
 
 -- src/lib.rt:58:1
-same-length : tie.Need-same-length Inv-loop μ-loop
-same-length c = search needs
-
--- src/lib.rt:58:1
-same-length-2 : tie.Need-same-length-2 Inv-loop μ-loop
-same-length-2 c = search needs
-
--- src/lib.rt:58:1
-same-length-3 : tie.Need-same-length-3 Inv-loop μ-loop
-same-length-3 c = search needs
-
--- src/lib.rt:58:1
-same-length-4 : tie.Need-same-length-4 Inv-loop μ-loop
-same-length-4 c = search needs
-
--- src/lib.rt:58:1
-same-length-5 : tie.Need-same-length-5 Inv-loop μ-loop
-same-length-5 c = search needs
-
--- src/lib.rt:58:1
 returns : tie.Need-returns Inv-loop μ-loop
 returns c = let s = (c .before .before .before .before .before .before .before .before .before .before .before .before) in
     let l = (c .before .loop) in
@@ -190,7 +150,7 @@ play-spec =
     Inv-loop
     μ-loop
     loop-holds
-    add-next
+    (λ c. search needs)
     mul-n
     shared-slice-read-n
     add-e
@@ -203,16 +163,16 @@ play-spec =
     sub-one-call
     part-one-call-start
     part-one-call-end
-    one-call-requires
+    (λ c κs. search needs)
     slice-write-answers
     shared-slice-read-took
-    took-requires
+    (λ c κs. search needs)
     add-d
-    loop-less
+    (λ c. search needs)
     loop-again
-    same-length
-    same-length-2
-    same-length-3
-    same-length-4
-    same-length-5
+    (λ c. search needs)
+    (λ c. search needs)
+    (λ c. search needs)
+    (λ c. search needs)
+    (λ c. search needs)
     returns)

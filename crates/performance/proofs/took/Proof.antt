@@ -1,13 +1,11 @@
-use mathlib.Core.Path.{_≡_, refl, sym, ap, _∙_}
-use Prim.Native.Nat.{ℕ, _-_, _+_, _≤_, _<_}
+-- `performance::took` meets its contract. Assumes nothing.
+use mathlib.Core.Path.{_≡_, _∙_}
+use Prim.Native.Nat.{_-_, _+_, _≤_, _<_}
 use native.Mathlib.Omega.{arith}
 use borrow.Author.Tests.{eq-eqb, ne-eqb}
 use Rattle.performance.specs.List.{tookOf}
-use borrow.Author.Needs.{needs}
 use Rattle.performance.proofs.took.Statement.{statement}
 use Rattle.performance.proofs.took.Tie as tie
-use Rattle.performance.proofs.took.Reads as reads
-use Rattle.performance.proofs.took.Lts as lts
 
 -- src/lib.rt:50:13
 returns : tie.Need-returns

@@ -1,34 +1,12 @@
-use mathlib.Core.Path.{_≡_, refl, sym, ap, _∙_}
+-- `player::play` meets its contract. Assumes nothing.
+use mathlib.Core.Path.{_≡_, sym, _∙_}
 use Prim.Native.Nat.{_+_, _≤_, _<_}
 use native.Mathlib.Omega.{arith}
-use lib.ListN.{length}
 use Rattle.machine.specs.Laws.{room-enough, room-passed}
 use Rattle.player.specs.Calls.{fills-none, fills-all, fills-late, fills-unsound, set-of, sound-of}
 use borrow.Author.Needs.{needs}
 use Rattle.player.proofs.play.Statement.{statement}
 use Rattle.player.proofs.play.Tie as tie
-use Rattle.player.proofs.play.Reads as reads
-use Rattle.player.proofs.play.Lts as lts
-use Rattle.control.proofs.positions_left.Reads as positions-left-reads
-use Rattle.player.proofs.run.Reads as run-reads
-use Rattle.player.proofs.sound_ok.Reads as sound-ok-reads
-use Rattle.state.proofs.clear.Reads as clear-reads
-
--- src/lib.rt:227:8
-sound-ok-requires : tie.Need-sound-ok-requires
-sound-ok-requires c κs = search needs
-
--- src/lib.rt:230:12
-positions-left-requires : tie.Need-positions-left-requires
-positions-left-requires c κs = search needs
-
--- src/lib.rt:232:17
-same-length : tie.Need-same-length
-same-length c = search needs
-
--- src/lib.rt:232:17
-same-length-2 : tie.Need-same-length-2
-same-length-2 c = search needs
 
 -- src/lib.rt:232:17
 returns : tie.Need-returns
@@ -60,22 +38,6 @@ clear-requires c κs = let s = (c .before .before .before .before .before .befor
     omega (arith, s .pre .2, r .scratch, (c .before .before .before .before .before .before .before .before .before .run) .kept .1 .1 .1 .1 .1 .1 .1 .1 .1 .1 .1 .1 .1 .0)
 
 -- src/lib.rt:241:13
-same-length-3 : tie.Need-same-length-3
-same-length-3 c = search needs
-
--- src/lib.rt:241:13
-same-length-4 : tie.Need-same-length-4
-same-length-4 c = search needs
-
--- src/lib.rt:241:13
-same-length-5 : tie.Need-same-length-5
-same-length-5 c = search needs
-
--- src/lib.rt:241:13
-same-length-6 : tie.Need-same-length-6
-same-length-6 c = search needs
-
--- src/lib.rt:241:13
 returns-2 : tie.Need-returns-2
 returns-2 c = let s = (c .before .before .before .before .before .before .before .before .before .before .before .before .before .before .before .before .before .before .before .before .before .before .before .before .before .before .before .before .before .before .before .before .before .before .before .before .before) in
     let S = s .args .sheet .now in
@@ -86,14 +48,6 @@ returns-2 c = let s = (c .before .before .before .before .before .before .before
     fills-all S (s .args .c) _ _ _ _ room sound left _ _ _ _ _ _ ((c .before .before .before .before .before .before .before .before .before .before .before .before .before .before .before .before .before .if3) .left) ((c .before .before .before .before .before .before .before .before .before .before .before .before .run) .ensures) (rw (s .pre .2) at ((c .before .before .clear) .ensures))
 
 -- src/lib.rt:246:9
-same-length-7 : tie.Need-same-length-7
-same-length-7 c = search needs
-
--- src/lib.rt:246:9
-same-length-8 : tie.Need-same-length-8
-same-length-8 c = search needs
-
--- src/lib.rt:246:9
 returns-3 : tie.Need-returns-3
 returns-3 c = let s = (c .before .before .before .before .before .before .before .before .before .before .before .before .before .before .before .before .before .before .before) in
     let S = s .args .sheet .now in
@@ -101,14 +55,6 @@ returns-3 c = let s = (c .before .before .before .before .before .before .before
     let room = s .pre .1 in
     let sound = sym ((c .before .before .before .sound-ok) .ensures) ∙ (c .before .before .if1) .taken in
     fills-late S (s .args .c) _ _ _ _ room sound (sym ((c .before .positions-left) .ensures) ∙ (c .if2) .left)
-
--- src/lib.rt:205:1
-same-length-9 : tie.Need-same-length-9
-same-length-9 c = search needs
-
--- src/lib.rt:205:1
-same-length-10 : tie.Need-same-length-10
-same-length-10 c = search needs
 
 -- src/lib.rt:205:1
 returns-4 : tie.Need-returns-4
@@ -122,21 +68,21 @@ pub play-spec : {M : Type 1} → statement M
 play-spec =
     tie.close
     (tie.spec
-    sound-ok-requires
-    positions-left-requires
-    same-length
-    same-length-2
+    (λ c κs. search needs)
+    (λ c κs. search needs)
+    (λ c. search needs)
+    (λ c. search needs)
     returns
     run-requires
     clear-requires
-    same-length-3
-    same-length-4
-    same-length-5
-    same-length-6
+    (λ c. search needs)
+    (λ c. search needs)
+    (λ c. search needs)
+    (λ c. search needs)
     returns-2
-    same-length-7
-    same-length-8
+    (λ c. search needs)
+    (λ c. search needs)
     returns-3
-    same-length-9
-    same-length-10
+    (λ c. search needs)
+    (λ c. search needs)
     returns-4)

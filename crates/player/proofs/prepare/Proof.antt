@@ -1,7 +1,7 @@
-use mathlib.Core.Path.{_≡_, refl, sym, ap, _∙_}
+-- `player::prepare` meets its contract. Assumes nothing.
+use mathlib.Core.Path.{_≡_, sym, ap, _∙_}
 use Prim.Native.Nat.{_+_, _≤_, _<_}
 use native.Mathlib.Omega.{arith}
-use lib.ListN.{length}
 use mathlib.Core.Bool.{true, false}
 use Rattle.sheet.specs.Checks.{checkOf}
 use Rattle.layout.specs.Good.{good}
@@ -11,29 +11,6 @@ use Rattle.player.specs.Calls.{room-checked, sheet-checked}
 use borrow.Author.Needs.{needs}
 use Rattle.player.proofs.prepare.Statement.{statement}
 use Rattle.player.proofs.prepare.Tie as tie
-use Rattle.player.proofs.prepare.Reads as reads
-use Rattle.player.proofs.prepare.Lts as lts
-use Rattle.layout.proofs.built.plan.Reads as plan-reads
-use Rattle.layout.proofs.needs.offsets.Reads as offsets-reads
-use Rattle.machine.proofs.room_ok.Reads as room-ok-reads
-use Rattle.sheet.proofs.check.Reads as check-reads
-use Rattle.sheet.proofs.count.Reads as count-reads
-
--- src/lib.rt:113:9
-check-requires : tie.Need-check-requires
-check-requires c κs = search needs
-
--- src/lib.rt:115:9
-same-length : tie.Need-same-length
-same-length c = search needs
-
--- src/lib.rt:115:9
-same-length-2 : tie.Need-same-length-2
-same-length-2 c = search needs
-
--- src/lib.rt:115:9
-same-length-3 : tie.Need-same-length-3
-same-length-3 c = search needs
 
 -- src/lib.rt:115:9
 returns : tie.Need-returns
@@ -72,10 +49,6 @@ offsets-requires c κs = let s = (c .before .before .before .before .before .bef
     let t = held (k .tables ((c .before .before .before .before .before .before .before .before .before .before .before .before .before .before .before .before .before .before .before .before .before .if1) .left)) ((c .before .before .before .before .before .before .before .before .before .before .before .before .before .before .before .before .before .before .before .before .count) .result) n (omega (arith, w .small, s .pre .0, (c .before .before .before .before .before .before .before .before .before .before .before .before .before .before .before .before .before .before .before .before .before .before .before .before .before .before .before .before .check) .kept .1 .0)) (omega (arith, w .small, s .pre .1, (c .before .before .before .before .before .before .before .before .before .before .before .before .before .before .before .before .before .before .before .before .before .before .before .before .before .before .before .before .check) .kept .1 .1 .0)) (omega (arith, w .small, s .pre .2, (c .before .before .before .before .before .before .before .before .before .before .before .before .before .before .before .before .before .before .before .before .before .before .before .before .before .before .before .before .check) .kept .1 .1 .1 .0)) in
     (w, t .0, t .1, t .2, (c .before .before .before .before .before .before .before .before .before .before .before .before .before .plan) .ensures .0, omega (arith, w .small, s .pre .6), omega (arith, w .small, s .pre .7), omega (arith, w .small, s .pre .8))
 
--- src/lib.rt:127:8
-room-ok-requires : tie.Need-room-ok-requires
-room-ok-requires c κs = search needs
-
 -- src/lib.rt:128:9
 same-length-4 : tie.Need-same-length-4
 same-length-4 c = (c .before .before .before .before .before .before .before .before .before .before .before .before .before .before .before .before .before .before .before .before .before .before .before .before .before .before .before .before .before .before .before .before .before .before .before .before .before .check) .kept .1 .0
@@ -87,30 +60,6 @@ same-length-5 c = (c .before .before .before .before .before .before .before .be
 -- src/lib.rt:128:9
 same-length-6 : tie.Need-same-length-6
 same-length-6 c = (c .before .before .before .before .before .before .before .before .before .before .before .before .before .before .before .before .before .before .before .before .before .before .before .before .before .before .before .before .before .before .before .before .before .before .before .before .before .check) .kept .1 .1 .1 .0
-
--- src/lib.rt:128:9
-same-length-7 : tie.Need-same-length-7
-same-length-7 c = search needs
-
--- src/lib.rt:128:9
-same-length-8 : tie.Need-same-length-8
-same-length-8 c = search needs
-
--- src/lib.rt:128:9
-same-length-9 : tie.Need-same-length-9
-same-length-9 c = search needs
-
--- src/lib.rt:128:9
-same-length-10 : tie.Need-same-length-10
-same-length-10 c = search needs
-
--- src/lib.rt:128:9
-same-length-11 : tie.Need-same-length-11
-same-length-11 c = search needs
-
--- src/lib.rt:128:9
-same-length-12 : tie.Need-same-length-12
-same-length-12 c = search needs
 
 -- src/lib.rt:128:9
 returns-2 : tie.Need-returns-2
@@ -154,30 +103,6 @@ same-length-15 : tie.Need-same-length-15
 same-length-15 c = (c .before .before .before .before .before .before .before .before .before .before .before .before .before .before .before .before .before .before .before .before .before .before .before .before .before .before .before .before .before .before .before .before .before .before .before .before .before .check) .kept .1 .1 .1 .0
 
 -- src/lib.rt:95:1
-same-length-16 : tie.Need-same-length-16
-same-length-16 c = search needs
-
--- src/lib.rt:95:1
-same-length-17 : tie.Need-same-length-17
-same-length-17 c = search needs
-
--- src/lib.rt:95:1
-same-length-18 : tie.Need-same-length-18
-same-length-18 c = search needs
-
--- src/lib.rt:95:1
-same-length-19 : tie.Need-same-length-19
-same-length-19 c = search needs
-
--- src/lib.rt:95:1
-same-length-20 : tie.Need-same-length-20
-same-length-20 c = search needs
-
--- src/lib.rt:95:1
-same-length-21 : tie.Need-same-length-21
-same-length-21 c = search needs
-
--- src/lib.rt:95:1
 returns-3 : tie.Need-returns-3
 returns-3 c = let s = (c .before .before .before .before .before .before .before .before .before .before .before .before .before .before .before .before .before .before .before .before .before .before .before .before .before .before .before .before .before .before .before .before .before .before .before .before .before .before .before .before .before .before .before .before .before .before .before .before .before .before .before) in
     let S = s .args .sheet .now in
@@ -200,32 +125,32 @@ pub prepare-spec : {M : Type 1} → statement M
 prepare-spec =
     tie.close
     (tie.spec
-    check-requires
-    same-length
-    same-length-2
-    same-length-3
+    (λ c κs. search needs)
+    (λ c. search needs)
+    (λ c. search needs)
+    (λ c. search needs)
     returns
     count-requires
     plan-requires
     offsets-requires
-    room-ok-requires
+    (λ c κs. search needs)
     same-length-4
     same-length-5
     same-length-6
-    same-length-7
-    same-length-8
-    same-length-9
-    same-length-10
-    same-length-11
-    same-length-12
+    (λ c. search needs)
+    (λ c. search needs)
+    (λ c. search needs)
+    (λ c. search needs)
+    (λ c. search needs)
+    (λ c. search needs)
     returns-2
     same-length-13
     same-length-14
     same-length-15
-    same-length-16
-    same-length-17
-    same-length-18
-    same-length-19
-    same-length-20
-    same-length-21
+    (λ c. search needs)
+    (λ c. search needs)
+    (λ c. search needs)
+    (λ c. search needs)
+    (λ c. search needs)
+    (λ c. search needs)
     returns-3)

@@ -1,15 +1,10 @@
-use mathlib.Core.Path.{_≡_, refl, sym, ap, _∙_}
+-- `player::sound_ok` meets its contract. Assumes nothing.
+use mathlib.Core.Path.{_≡_, sym, _∙_}
 use Prim.Native.Nat.{_+_, _≤_, _<_}
-use native.Mathlib.Omega.{arith}
-use lib.ListN.{length}
 use Rattle.machine.specs.Laws.{room-enough, room-passed}
 use Rattle.player.specs.Calls.{sound-early, sound-late}
-use borrow.Author.Needs.{needs}
 use Rattle.player.proofs.sound_ok.Statement.{statement}
 use Rattle.player.proofs.sound_ok.Tie as tie
-use Rattle.player.proofs.sound_ok.Reads as reads
-use Rattle.player.proofs.sound_ok.Lts as lts
-use Rattle.state.proofs.rings_ok.Reads as rings-ok-reads
 
 -- src/lib.rt:170:9
 returns : tie.Need-returns

@@ -1,6 +1,6 @@
-use mathlib.Core.Path.{_≡_, refl, sym, _∙_}
+-- `streaming::block` meets its contract. Assumes nothing.
+use mathlib.Core.Path.{_≡_, refl, _∙_}
 use Prim.Native.Nat.{_+_, _≤_, _<_}
-use native.Mathlib.Omega.{arith}
 use lib.ListN.{length}
 use Rattle.control.specs.Moves.{moved}
 use Rattle.layout.specs.Good.{good}
@@ -11,24 +11,6 @@ use Rattle.streaming.specs.Run.{ready-of, blocked}
 use borrow.Author.Needs.{needs}
 use Rattle.streaming.proofs.block.Statement.{statement}
 use Rattle.streaming.proofs.block.Tie as tie
-use Rattle.streaming.proofs.block.Reads as reads
-use Rattle.streaming.proofs.block.Lts as lts
-use Rattle.streaming.proofs.glide_block.Reads as glide-block-reads
-use Rattle.streaming.proofs.glide_on.Reads as glide-on-reads
-use Rattle.walk.proofs.fill_block.Reads as fill-block-reads
-use Rattle.walk.proofs.source.Reads as source-reads
-
--- src/lib.rt:77:9
-glide-block-requires : tie.Need-glide-block-requires
-glide-block-requires c κs = search needs
-
--- src/lib.rt:78:5
-fill-block-requires : tie.Need-fill-block-requires
-fill-block-requires c κs = search needs
-
--- src/lib.rt:90:9
-glide-on-requires : tie.Need-glide-on-requires
-glide-on-requires c κs = search needs
 
 -- src/lib.rt:79:5
 source-requires : tie.Need-source-requires
@@ -44,34 +26,6 @@ source-requires c κs = let s = (c .before .before .before .before .before .befo
     )
 
 -- src/lib.rt:55:1
-same-length : tie.Need-same-length
-same-length c = search needs
-
--- src/lib.rt:55:1
-same-length-2 : tie.Need-same-length-2
-same-length-2 c = search needs
-
--- src/lib.rt:55:1
-same-length-3 : tie.Need-same-length-3
-same-length-3 c = search needs
-
--- src/lib.rt:55:1
-same-length-4 : tie.Need-same-length-4
-same-length-4 c = search needs
-
--- src/lib.rt:55:1
-same-length-5 : tie.Need-same-length-5
-same-length-5 c = search needs
-
--- src/lib.rt:55:1
-same-length-6 : tie.Need-same-length-6
-same-length-6 c = search needs
-
--- src/lib.rt:55:1
-same-length-7 : tie.Need-same-length-7
-same-length-7 c = search needs
-
--- src/lib.rt:55:1
 returns : tie.Need-returns
 returns c = let s = (c .before .before .before .before .before .before .before .before .before .before .before .before .before .before .before .before .before .before .before .before .before .before .before .before .before .before .before .before .before .before .before .before .before .before .before .before .before .before .before .before .before .before .before .before) in
     let x = s .pre .0 in
@@ -84,15 +38,15 @@ pub block-spec : {M : Type 1} → statement M
 block-spec =
     tie.close
     (tie.spec
-    glide-block-requires
-    fill-block-requires
-    glide-on-requires
+    (λ c κs. search needs)
+    (λ c κs. search needs)
+    (λ c κs. search needs)
     source-requires
-    same-length
-    same-length-2
-    same-length-3
-    same-length-4
-    same-length-5
-    same-length-6
-    same-length-7
+    (λ c. search needs)
+    (λ c. search needs)
+    (λ c. search needs)
+    (λ c. search needs)
+    (λ c. search needs)
+    (λ c. search needs)
+    (λ c. search needs)
     returns)

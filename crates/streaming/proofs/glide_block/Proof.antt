@@ -1,3 +1,4 @@
+-- `streaming::glide_block` meets its contract. Assumes nothing.
 use mathlib.Core.Path.{_≡_, ap, _∙_}
 use Prim.Native.Nat.{_-_, _+_, _≤_, _<_}
 use native.Mathlib.Omega.{arith}
@@ -7,10 +8,6 @@ use Rattle.streaming.specs.Run.{Gliding, glide-start, glide-turn}
 use borrow.Author.Needs.{needs}
 use Rattle.streaming.proofs.glide_block.Statement.{statement}
 use Rattle.streaming.proofs.glide_block.Tie as tie
-use Rattle.streaming.proofs.glide_block.Reads as reads
-use Rattle.streaming.proofs.glide_block.Lts as lts
-use Rattle.streaming.proofs.glide_on.Reads as glide-on-reads
-use Rattle.streaming.proofs.rise.Reads as rise-reads
 
 abbrev Inv-loop : tie.InvT-loop
 Inv-loop pitch₀ c₀ k₀ pitch c k = Gliding c₀ pitch₀ pitch c k
@@ -22,40 +19,16 @@ abbrev μ-loop : tie.MeasureT-loop
 loop-holds : tie.Need-loop-holds Inv-loop μ-loop
 loop-holds c = glide-start _ _
 
--- src/lib.rt:46:13
-glide-on-requires : tie.Need-glide-on-requires Inv-loop μ-loop
-glide-on-requires c κs = search needs
-
--- src/lib.rt:47:9
-mul-pitch : tie.Need-mul-pitch Inv-loop μ-loop
-mul-pitch c = search needs
-
--- src/lib.rt:47:9
-slice-write-pitch : tie.Need-slice-write-pitch Inv-loop μ-loop
-slice-write-pitch c = search needs
-
 -- src/lib.rt:48:9
 rise-requires : tie.Need-rise-requires Inv-loop μ-loop
 unfolding moved
 rise-requires c κs = let l = (c .before .before .before .loop) in
     rw ((c .before .glide-on) .ensures) (omega (arith, l .inv .at-position, l .inv .bound, (c .before .before .before .before .before) .pre))
 
--- src/lib.rt:49:9
-add-k : tie.Need-add-k Inv-loop μ-loop
-add-k c = search needs
-
--- src/lib.rt:45:5
-loop-less : tie.Need-loop-less Inv-loop μ-loop
-loop-less c = search needs
-
 -- src/lib.rt:45:5
 loop-again : tie.Need-loop-again Inv-loop μ-loop
 loop-again c = let l = (c .before .before .before .before .loop) in
     glide-turn _ _ _ _ (l .k) _ _ (l .inv) (omega (arith, l .inv .long)) (rw ((c .before .before .glide-on) .ensures)) ((c .rise) .ensures ∙ ap risen ((c .before .before .glide-on) .ensures))
-
--- src/lib.rt:39:1
-same-length : tie.Need-same-length Inv-loop μ-loop
-same-length c = search needs
 
 -- src/lib.rt:39:1
 returns : tie.Need-returns Inv-loop μ-loop
@@ -70,12 +43,12 @@ glide-block-spec =
     Inv-loop
     μ-loop
     loop-holds
-    glide-on-requires
-    mul-pitch
-    slice-write-pitch
+    (λ c κs. search needs)
+    (λ c. search needs)
+    (λ c. search needs)
     rise-requires
-    add-k
-    loop-less
+    (λ c. search needs)
+    (λ c. search needs)
     loop-again
-    same-length
+    (λ c. search needs)
     returns)

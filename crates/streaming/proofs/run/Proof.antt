@@ -1,16 +1,13 @@
+-- `streaming::run` meets its contract. Assumes nothing.
 use mathlib.Core.Path.{_≡_, refl, sym, ap, _∙_}
 use Prim.Native.Nat.{ℕ, _-_, _+_, _≤_, _<_}
 use native.Mathlib.Omega.{arith}
-use lib.ListN.{length, take, drop, length-drop, length-append, length-take}
+use lib.ListN.{length, take, drop, length-drop, length-append}
 use lib.Seq.{length-take-le}
 use Rattle.streaming.specs.Run.{Running, run-start, run-turn, run-end, set-same}
 use borrow.Author.Needs.{needs}
 use Rattle.streaming.proofs.run.Statement.{statement}
 use Rattle.streaming.proofs.run.Tie as tie
-use Rattle.streaming.proofs.run.Reads as reads
-use Rattle.streaming.proofs.run.Lts as lts
-use Rattle.streaming.proofs.block.Reads as block-reads
-use Rattle.streaming.proofs.chunk.Reads as chunk-reads
 
 abbrev Inv-loop : tie.InvT-loop
 Inv-loop sheet count nexts acts begins afters places words blocks out₀ v₀ w₀ pitch₀ cells₀ regs₀ scr₀ c₀ d₀ out v w pitch cells regs scr c d = Running sheet c₀ out₀ cells₀ regs₀ scr₀ c out cells regs scr d × (length v ≡ length v₀) × (length w ≡ length w₀) × (length pitch ≡ length pitch₀)
@@ -21,34 +18,6 @@ abbrev μ-loop : tie.MeasureT-loop
 -- src/lib.rt:133:5
 loop-holds : tie.Need-loop-holds Inv-loop μ-loop
 loop-holds c = (run-start _ _ _ _ _ _ ((c .before .before .before .before .before .before .before .before .before .before .before .before .before .before .before) .pre .1), refl, refl, refl)
-
--- src/lib.rt:134:23
-sub-chunk : tie.Need-sub-chunk Inv-loop μ-loop
-sub-chunk c = search needs
-
--- src/lib.rt:134:13
-chunk-requires : tie.Need-chunk-requires Inv-loop μ-loop
-chunk-requires c κs = search needs
-
--- src/lib.rt:135:17
-add-e : tie.Need-add-e Inv-loop μ-loop
-add-e c = search needs
-
--- src/lib.rt:147:13
-mul-block : tie.Need-mul-block Inv-loop μ-loop
-mul-block c = search needs
-
--- src/lib.rt:147:13
-sub-block : tie.Need-sub-block Inv-loop μ-loop
-sub-block c = search needs
-
--- src/lib.rt:147:13
-part-block-start : tie.Need-part-block-start Inv-loop μ-loop
-part-block-start c = search needs
-
--- src/lib.rt:147:13
-part-block-end : tie.Need-part-block-end Inv-loop μ-loop
-part-block-end c = search needs
 
 -- src/lib.rt:148:13
 slice-relend-prefix-block : tie.Need-slice-relend-prefix-block Inv-loop μ-loop
@@ -140,34 +109,6 @@ loop-again c = let s = (c .before .before .before .before .before .before .befor
     )
 
 -- src/lib.rt:109:1
-same-length : tie.Need-same-length Inv-loop μ-loop
-same-length c = search needs
-
--- src/lib.rt:109:1
-same-length-2 : tie.Need-same-length-2 Inv-loop μ-loop
-same-length-2 c = search needs
-
--- src/lib.rt:109:1
-same-length-3 : tie.Need-same-length-3 Inv-loop μ-loop
-same-length-3 c = search needs
-
--- src/lib.rt:109:1
-same-length-4 : tie.Need-same-length-4 Inv-loop μ-loop
-same-length-4 c = search needs
-
--- src/lib.rt:109:1
-same-length-5 : tie.Need-same-length-5 Inv-loop μ-loop
-same-length-5 c = search needs
-
--- src/lib.rt:109:1
-same-length-6 : tie.Need-same-length-6 Inv-loop μ-loop
-same-length-6 c = search needs
-
--- src/lib.rt:109:1
-same-length-7 : tie.Need-same-length-7 Inv-loop μ-loop
-same-length-7 c = search needs
-
--- src/lib.rt:109:1
 returns : tie.Need-returns Inv-loop μ-loop
 returns c = let l = (c .before .loop) in
     run-end _ _ _ _ _ _ _ _ _ _ _ (l .d) (l .inv .0) (omega (arith, l .inv .0 .outs))
@@ -179,13 +120,13 @@ run-spec =
     Inv-loop
     μ-loop
     loop-holds
-    sub-chunk
-    chunk-requires
-    add-e
-    mul-block
-    sub-block
-    part-block-start
-    part-block-end
+    (λ c. search needs)
+    (λ c κs. search needs)
+    (λ c. search needs)
+    (λ c. search needs)
+    (λ c. search needs)
+    (λ c. search needs)
+    (λ c. search needs)
     slice-relend-prefix-block
     slice-aggregate-block
     slice-relend-prefix-block-2
@@ -195,11 +136,11 @@ run-spec =
     block-requires
     loop-less
     loop-again
-    same-length
-    same-length-2
-    same-length-3
-    same-length-4
-    same-length-5
-    same-length-6
-    same-length-7
+    (λ c. search needs)
+    (λ c. search needs)
+    (λ c. search needs)
+    (λ c. search needs)
+    (λ c. search needs)
+    (λ c. search needs)
+    (λ c. search needs)
     returns)

@@ -1,3 +1,4 @@
+-- `units::play` meets its contract. Assumes nothing.
 use mathlib.Core.Path.{_≡_, sym, _∙_}
 use Prim.Native.Nat.{_≤_, _<_}
 use native.Mathlib.Omega.{arith}
@@ -5,15 +6,6 @@ use Rattle.units.specs.Values.{high, value-none, none-mid, none-low, one
 use borrow.Author.Needs.{needs}
 use Rattle.units.proofs.play.Statement.{statement}
 use Rattle.units.proofs.play.Tie as tie
-use Rattle.units.proofs.play.Reads as reads
-use Rattle.units.proofs.play.Lts as lts
-use Rattle.proc_unit.proofs.play0.Reads as play0-reads
-use Rattle.proc_unit.proofs.play1.Reads as play1-reads
-use Rattle.source_unit.proofs.play0.Reads as play0-reads′
-use Rattle.source_unit.proofs.play1.Reads as play1-reads′
-use Rattle.source_unit.proofs.play2.Reads as play2-reads
-use Rattle.units.proofs.values_of.Reads as values-of-reads
-use Rattle.value_unit.proofs.play.Reads as play-reads
 
 -- src/lib.rt:45:9
 play-requires : tie.Need-play-requires
@@ -25,28 +17,12 @@ play-requires c κs = let s = (c .before .before .before .before .before .before
     (p .2, p .0, p .1, h, high k e h, p .8)
 
 -- src/lib.rt:46:9
-same-length : tie.Need-same-length
-same-length c = search needs
-
--- src/lib.rt:46:9
-same-length-2 : tie.Need-same-length-2
-same-length-2 c = search needs
-
--- src/lib.rt:46:9
-same-length-3 : tie.Need-same-length-3
-same-length-3 c = search needs
-
--- src/lib.rt:46:9
 returns : tie.Need-returns
 returns c = let s = (c .before .before .before .before .before .before .before .before .before .before .before .before .before .before .before .before .before .before .before) in
     let k = s .args .kind in
     let p = s .pre in
     let e = p .3 in
     rw (value-none k e ((c .before .before .before .before .before .before .before .before .before .before .if1) .taken)) ((c .before .before .before .before .before .before .play) .ensures)
-
--- src/lib.rt:48:9
-values-of-requires : tie.Need-values-of-requires
-values-of-requires c κs = search needs
 
 -- src/lib.rt:51:13
 play0-requires : tie.Need-play0-requires
@@ -57,18 +33,6 @@ play0-requires c κs = let s = (c .before .before .before .before .before .befor
     let z = (c .before .before .before .before .before .values-of) .ensures in
     let n = none-mid k e (sym z ∙ (c .before .before .before .if3) .taken) ((c .before .before .before .before .if2) .taken) (omega (arith, (c .before .before .before .before .before .before .if1) .left)) in
     (p .2, n .0, n .1, n .2, p .4, p .8)
-
--- src/lib.rt:52:13
-same-length-4 : tie.Need-same-length-4
-same-length-4 c = search needs
-
--- src/lib.rt:52:13
-same-length-5 : tie.Need-same-length-5
-same-length-5 c = search needs
-
--- src/lib.rt:52:13
-same-length-6 : tie.Need-same-length-6
-same-length-6 c = search needs
 
 -- src/lib.rt:52:13
 returns-2 : tie.Need-returns-2
@@ -90,18 +54,6 @@ play1-requires c κs = let s = (c .before .before .before .before .before .befor
     (p .2, n .0, n .1, n .2, n .3, n .4, p .5)
 
 -- src/lib.rt:55:9
-same-length-7 : tie.Need-same-length-7
-same-length-7 c = search needs
-
--- src/lib.rt:55:9
-same-length-8 : tie.Need-same-length-8
-same-length-8 c = search needs
-
--- src/lib.rt:55:9
-same-length-9 : tie.Need-same-length-9
-same-length-9 c = search needs
-
--- src/lib.rt:55:9
 returns-3 : tie.Need-returns-3
 returns-3 c = let s = (c .before .before .before .before .before .before .before .before .before .before .before .before .before .before .before .before .before .before .before .before .before .before) in
     let k = s .args .kind in
@@ -119,18 +71,6 @@ play0-requires-2 c κs = let s = (c .before .before .before .before .before .bef
     let z = (c .before .before .before .before .before .values-of) .ensures in
     let n = none-low k e (sym z ∙ (c .before .before .before .if4) .taken) (omega (arith, (c .before .before .before .before .if2) .left)) in
     (p .2, n .0, n .1, p .8)
-
--- src/lib.rt:59:9
-same-length-10 : tie.Need-same-length-10
-same-length-10 c = search needs
-
--- src/lib.rt:59:9
-same-length-11 : tie.Need-same-length-11
-same-length-11 c = search needs
-
--- src/lib.rt:59:9
-same-length-12 : tie.Need-same-length-12
-same-length-12 c = search needs
 
 -- src/lib.rt:59:9
 returns-4 : tie.Need-returns-4
@@ -152,18 +92,6 @@ play1-requires-2 c κs = let s = (c .before .before .before .before .before .bef
     (p .2, n .0, n .1, n .2, n .3, p .5, p .7)
 
 -- src/lib.rt:63:9
-same-length-13 : tie.Need-same-length-13
-same-length-13 c = search needs
-
--- src/lib.rt:63:9
-same-length-14 : tie.Need-same-length-14
-same-length-14 c = search needs
-
--- src/lib.rt:63:9
-same-length-15 : tie.Need-same-length-15
-same-length-15 c = search needs
-
--- src/lib.rt:63:9
 returns-5 : tie.Need-returns-5
 returns-5 c = let s = (c .before .before .before .before .before .before .before .before .before .before .before .before .before .before .before .before .before .before .before .before .before .before .before) in
     let k = s .args .kind in
@@ -183,18 +111,6 @@ play2-requires c κs = let s = (c .before .before .before .before .before .befor
     (p .2, n .0, n .1, n .2, n .3, p .5, p .6, p .7)
 
 -- src/lib.rt:27:1
-same-length-16 : tie.Need-same-length-16
-same-length-16 c = search needs
-
--- src/lib.rt:27:1
-same-length-17 : tie.Need-same-length-17
-same-length-17 c = search needs
-
--- src/lib.rt:27:1
-same-length-18 : tie.Need-same-length-18
-same-length-18 c = search needs
-
--- src/lib.rt:27:1
 returns-6 : tie.Need-returns-6
 returns-6 c = let s = (c .before .before .before .before .before .before .before .before .before .before .before .before .before .before .before .before .before .before .before .before .before .before .before) in
     let k = s .args .kind in
@@ -208,33 +124,33 @@ play-spec =
     tie.close
     (tie.spec
     play-requires
-    same-length
-    same-length-2
-    same-length-3
+    (λ c. search needs)
+    (λ c. search needs)
+    (λ c. search needs)
     returns
-    values-of-requires
+    (λ c κs. search needs)
     play0-requires
-    same-length-4
-    same-length-5
-    same-length-6
+    (λ c. search needs)
+    (λ c. search needs)
+    (λ c. search needs)
     returns-2
     play1-requires
-    same-length-7
-    same-length-8
-    same-length-9
+    (λ c. search needs)
+    (λ c. search needs)
+    (λ c. search needs)
     returns-3
     play0-requires-2
-    same-length-10
-    same-length-11
-    same-length-12
+    (λ c. search needs)
+    (λ c. search needs)
+    (λ c. search needs)
     returns-4
     play1-requires-2
-    same-length-13
-    same-length-14
-    same-length-15
+    (λ c. search needs)
+    (λ c. search needs)
+    (λ c. search needs)
     returns-5
     play2-requires
-    same-length-16
-    same-length-17
-    same-length-18
+    (λ c. search needs)
+    (λ c. search needs)
+    (λ c. search needs)
     returns-6)

@@ -1,7 +1,8 @@
-use mathlib.Core.Path.{_≡_, refl, sym, ap, _∙_}
+-- `walk::source`, `walk::chain` and `walk::mix` meet their contracts: N minus the record falls round the cycle. Assumes nothing.
+use mathlib.Core.Path.{_≡_, sym, ap, _∙_}
 use Prim.Native.Nat.{_-_, _+_, _*_, _≤_}
 use native.Mathlib.Omega.{arith}
-use lib.ListN.{length, getD}
+use lib.ListN.{length}
 use Rattle.sheet.specs.Record.{countOf, kind}
 use Rattle.sheet.specs.Kinds.{isFold}
 use Rattle.layout.specs.Good.{good}
@@ -76,13 +77,6 @@ chain-mul-j :
     chain-Inv-loop
     chain-μ-loop
 chain-mul-j t c = search needs
-
--- src/lib.rt:269:17
-chain-shared-slice-read-j : (t : ℕ) → chain-lts.Need-shared-slice-read-j (
-  source-below t,
-  source.Post,
-) (chain-at t) chain.Post chain-Inv-loop chain-μ-loop
-chain-shared-slice-read-j t c = search needs
 
 -- src/lib.rt:270:5
 chain-loop-holds :
@@ -325,58 +319,6 @@ mix-kind-at-requires t c κs = let s = (c .before .before .before .before .befor
     let h : i < countOf S = omega (arith, hi, vo .passed .count) in
     (h, omega (arith, vo .passed .count, vo .passed .small), omega (arith, vo .passed .count, vo .passed .long))
 
--- src/lib.rt:304:14
-mix-mul-at : (t : ℕ) → mix-lts.Need-mul-at (
-  kind-at-reads.Asked,
-  kind-at-reads.Learnt,
-  fill-block-reads.Asked,
-  fill-block-reads.Learnt,
-  source-below t,
-  source.Post,
-  scratch-join-reads.Asked,
-  scratch-join-reads.Learnt,
-) (mix-at t) mix.Post mix-Inv-loop mix-μ-loop
-mix-mul-at t c = search needs
-
--- src/lib.rt:304:14
-mix-shared-slice-read-at : (t : ℕ) → mix-lts.Need-shared-slice-read-at (
-  kind-at-reads.Asked,
-  kind-at-reads.Learnt,
-  fill-block-reads.Asked,
-  fill-block-reads.Learnt,
-  source-below t,
-  source.Post,
-  scratch-join-reads.Asked,
-  scratch-join-reads.Learnt,
-) (mix-at t) mix.Post mix-Inv-loop mix-μ-loop
-mix-shared-slice-read-at t c = search needs
-
--- src/lib.rt:305:17
-mix-mul-j : (t : ℕ) → mix-lts.Need-mul-j (
-  kind-at-reads.Asked,
-  kind-at-reads.Learnt,
-  fill-block-reads.Asked,
-  fill-block-reads.Learnt,
-  source-below t,
-  source.Post,
-  scratch-join-reads.Asked,
-  scratch-join-reads.Learnt,
-) (mix-at t) mix.Post mix-Inv-loop mix-μ-loop
-mix-mul-j t c = search needs
-
--- src/lib.rt:305:17
-mix-shared-slice-read-j : (t : ℕ) → mix-lts.Need-shared-slice-read-j (
-  kind-at-reads.Asked,
-  kind-at-reads.Learnt,
-  fill-block-reads.Asked,
-  fill-block-reads.Learnt,
-  source-below t,
-  source.Post,
-  scratch-join-reads.Asked,
-  scratch-join-reads.Learnt,
-) (mix-at t) mix.Post mix-Inv-loop mix-μ-loop
-mix-shared-slice-read-j t c = search needs
-
 -- src/lib.rt:306:5
 mix-loop-holds : (t : ℕ) → mix-lts.Need-loop-holds (
   kind-at-reads.Asked,
@@ -397,19 +339,6 @@ mix-loop-holds t c = let s = (c .before .before .before .before .before .before 
     let h : i < countOf S = omega (arith, hi, vo .passed .count) in
     let e = fold-nodes (kind S i) (s .pre .1 .4) in
     ((c .before .before .kind-at) .ensures, s .pre .1 .1 .scratch-at .at i (omega (arith, hi)), rw (R .begin-at .at i hi) (mix-start vo i h e (s .args .c) _ _ _ _ _ _ (s .pre .1 .2)))
-
--- src/lib.rt:307:9
-mix-fill-block-requires : (t : ℕ) → mix-lts.Need-fill-block-requires (
-  kind-at-reads.Asked,
-  kind-at-reads.Learnt,
-  fill-block-reads.Asked,
-  fill-block-reads.Learnt,
-  source-below t,
-  source.Post,
-  scratch-join-reads.Asked,
-  scratch-join-reads.Learnt,
-) (mix-at t) mix.Post mix-Inv-loop mix-μ-loop
-mix-fill-block-requires t c κs = search needs
 
 -- src/lib.rt:308:9
 mix-source-requires : (t : ℕ) → mix-lts.Need-source-requires (
@@ -562,84 +491,6 @@ mix-loop-again t c = let s = (c .before .before .before .before .before .before 
     (L .inv .0, L .inv .1, rw (R .after-at .at (L .j) hj) (mix-again vo i h e (s .args .c) _ _ _ _ _ _ _ _ _ _ _ _ (L .j) _ _ _ _ _ _ _ (s .pre .1 .5) (R .short) (s .pre .1 .1 .room) l t (rw ((c .before .before .before .before .before .before .before .before .before .before .before .before .before .before .before .before .before .before .before .before .before .before .before .before .before .before .before .fill-block) .ensures) at ((c .before .before .before .before .before .before .before .before .before .before .before .before .before .before .before .before .before .before .source) .ensures)) (rw (L .inv .0, L .inv .1) at ((c .before .before .before .scratch-join) .ensures)) ((c .before .before .before .before .before .before .before .before .before .before .before .before .before .before .before .before .before .before .source) .kept .1 .1 .1 .1 .1 .1 .1 .1 .1 .1 .1 .0 ∙ (c .before .before .before .before .before .before .before .before .before .before .before .before .before .before .before .before .before .before .before .before .before .before .before .before .before .before .before .fill-block) .kept .0) ((c .before .before .before .before .before .before .before .before .before .before .before .before .before .before .before .before .before .before .source) .kept .1 .1 .1 .1 .1 .1 .1 .1 .1 .1 .1 .1 .1 .1 .1 .0) ((c .before .before .before .before .before .before .before .before .before .before .before .before .before .before .before .before .before .before .source) .kept .1 .1 .1 .1 .1 .1 .1 .1 .1 .1 .1 .1 .1 .1 .1 .1 .0) ((c .before .before .before .before .before .before .before .before .before .before .before .before .before .before .before .before .before .before .source) .kept .1 .1 .1 .1 .1 .1 .1 .1 .1 .1 .1 .1 .1 .1 .1 .1 .1 .0) ((c .before .before .before .scratch-join) .kept .1 .0) ((c .before .before .before .before .before .before .before .before .before .before .before .before .before .before .before .before .before .before .source) .kept .1 .1 .1 .1 .1 .1 .1 .1 .1 .1 .1 .1 .0) ((c .before .before .before .before .before .before .before .before .before .before .before .before .before .before .before .before .before .before .source) .kept .1 .1 .1 .1 .1 .1 .1 .1 .1 .1 .1 .1 .1 .0)))
 
 -- src/lib.rt:280:1
-mix-same-length : (t : ℕ) → mix-lts.Need-same-length (
-  kind-at-reads.Asked,
-  kind-at-reads.Learnt,
-  fill-block-reads.Asked,
-  fill-block-reads.Learnt,
-  source-below t,
-  source.Post,
-  scratch-join-reads.Asked,
-  scratch-join-reads.Learnt,
-) (mix-at t) mix.Post mix-Inv-loop mix-μ-loop
-mix-same-length t c = search needs
-
--- src/lib.rt:280:1
-mix-same-length-2 : (t : ℕ) → mix-lts.Need-same-length-2 (
-  kind-at-reads.Asked,
-  kind-at-reads.Learnt,
-  fill-block-reads.Asked,
-  fill-block-reads.Learnt,
-  source-below t,
-  source.Post,
-  scratch-join-reads.Asked,
-  scratch-join-reads.Learnt,
-) (mix-at t) mix.Post mix-Inv-loop mix-μ-loop
-mix-same-length-2 t c = search needs
-
--- src/lib.rt:280:1
-mix-same-length-3 : (t : ℕ) → mix-lts.Need-same-length-3 (
-  kind-at-reads.Asked,
-  kind-at-reads.Learnt,
-  fill-block-reads.Asked,
-  fill-block-reads.Learnt,
-  source-below t,
-  source.Post,
-  scratch-join-reads.Asked,
-  scratch-join-reads.Learnt,
-) (mix-at t) mix.Post mix-Inv-loop mix-μ-loop
-mix-same-length-3 t c = search needs
-
--- src/lib.rt:280:1
-mix-same-length-4 : (t : ℕ) → mix-lts.Need-same-length-4 (
-  kind-at-reads.Asked,
-  kind-at-reads.Learnt,
-  fill-block-reads.Asked,
-  fill-block-reads.Learnt,
-  source-below t,
-  source.Post,
-  scratch-join-reads.Asked,
-  scratch-join-reads.Learnt,
-) (mix-at t) mix.Post mix-Inv-loop mix-μ-loop
-mix-same-length-4 t c = search needs
-
--- src/lib.rt:280:1
-mix-same-length-5 : (t : ℕ) → mix-lts.Need-same-length-5 (
-  kind-at-reads.Asked,
-  kind-at-reads.Learnt,
-  fill-block-reads.Asked,
-  fill-block-reads.Learnt,
-  source-below t,
-  source.Post,
-  scratch-join-reads.Asked,
-  scratch-join-reads.Learnt,
-) (mix-at t) mix.Post mix-Inv-loop mix-μ-loop
-mix-same-length-5 t c = search needs
-
--- src/lib.rt:280:1
-mix-same-length-6 : (t : ℕ) → mix-lts.Need-same-length-6 (
-  kind-at-reads.Asked,
-  kind-at-reads.Learnt,
-  fill-block-reads.Asked,
-  fill-block-reads.Learnt,
-  source-below t,
-  source.Post,
-  scratch-join-reads.Asked,
-  scratch-join-reads.Learnt,
-) (mix-at t) mix.Post mix-Inv-loop mix-μ-loop
-mix-same-length-6 t c = search needs
-
--- src/lib.rt:280:1
 mix-returns : (t : ℕ) → mix-lts.Need-returns (
   kind-at-reads.Asked,
   kind-at-reads.Learnt,
@@ -687,90 +538,6 @@ source-kind-at-requires t c κs = let s = (c .before .before .before .before .be
     let hi = s .pre .1 .3 in
     let h : i < countOf S = omega (arith, hi, vo .passed .count) in
     (h, omega (arith, vo .passed .count, vo .passed .small), omega (arith, vo .passed .count, vo .passed .long))
-
--- src/lib.rt:223:8
-source-is-fold-requires : (t : ℕ) → source-lts.Need-is-fold-requires (
-  kind-at-reads.Asked,
-  kind-at-reads.Learnt,
-  is-fold-reads.Asked,
-  is-fold-reads.Learnt,
-  empty-reads.Asked,
-  empty-reads.Learnt,
-  scratch-fill-reads.Asked,
-  scratch-fill-reads.Learnt,
-  mix-below t,
-  mix.Post,
-  scratch-take-reads.Asked,
-  scratch-take-reads.Learnt,
-  chain-below t,
-  chain.Post,
-  leaf-reads.Asked,
-  leaf-reads.Learnt,
-) (source-at t) source.Post
-source-is-fold-requires t c κs = search needs
-
--- src/lib.rt:224:18
-source-mul-at : (t : ℕ) → source-lts.Need-mul-at (
-  kind-at-reads.Asked,
-  kind-at-reads.Learnt,
-  is-fold-reads.Asked,
-  is-fold-reads.Learnt,
-  empty-reads.Asked,
-  empty-reads.Learnt,
-  scratch-fill-reads.Asked,
-  scratch-fill-reads.Learnt,
-  mix-below t,
-  mix.Post,
-  scratch-take-reads.Asked,
-  scratch-take-reads.Learnt,
-  chain-below t,
-  chain.Post,
-  leaf-reads.Asked,
-  leaf-reads.Learnt,
-) (source-at t) source.Post
-source-mul-at t c = search needs
-
--- src/lib.rt:224:18
-source-shared-slice-read-at : (t : ℕ) → source-lts.Need-shared-slice-read-at (
-  kind-at-reads.Asked,
-  kind-at-reads.Learnt,
-  is-fold-reads.Asked,
-  is-fold-reads.Learnt,
-  empty-reads.Asked,
-  empty-reads.Learnt,
-  scratch-fill-reads.Asked,
-  scratch-fill-reads.Learnt,
-  mix-below t,
-  mix.Post,
-  scratch-take-reads.Asked,
-  scratch-take-reads.Learnt,
-  chain-below t,
-  chain.Post,
-  leaf-reads.Asked,
-  leaf-reads.Learnt,
-) (source-at t) source.Post
-source-shared-slice-read-at t c = search needs
-
--- src/lib.rt:225:42
-source-empty-requires : (t : ℕ) → source-lts.Need-empty-requires (
-  kind-at-reads.Asked,
-  kind-at-reads.Learnt,
-  is-fold-reads.Asked,
-  is-fold-reads.Learnt,
-  empty-reads.Asked,
-  empty-reads.Learnt,
-  scratch-fill-reads.Asked,
-  scratch-fill-reads.Learnt,
-  mix-below t,
-  mix.Post,
-  scratch-take-reads.Asked,
-  scratch-take-reads.Learnt,
-  chain-below t,
-  chain.Post,
-  leaf-reads.Asked,
-  leaf-reads.Learnt,
-) (source-at t) source.Post
-source-empty-requires t c κs = search needs
 
 -- src/lib.rt:225:9
 source-scratch-fill-requires : (t : ℕ) → source-lts.Need-scratch-fill-requires (
@@ -866,132 +633,6 @@ source-scratch-take-requires t c κs = let s = (c .before .before .before .befor
     omega (arith, playable S (vo .passed .passed) .scratch-end i h, ea, s .pre .1 .1 .room, R .short, need, (c .before .before .before .before .before .before .before .before .before .before .before .before .before .before .before .before .before .before .before .before .before .before .before .scratch-fill) .kept .0, (c .before .before .before .before .before .before .before .before .before .before .before .before .before .before .mix) .kept .1 .1 .1 .1 .1 .1 .1 .1 .1 .1 .1 .1 .1 .1 .1 .1 .1 .0, (c .before .before .before .before .before .before .before .before .before .before .before .before .before .before .mix) .kept .1 .1 .1 .1 .1 .1 .1 .1 .1 .1 .1 .0)
 
 -- src/lib.rt:231:9
-source-same-length : (t : ℕ) → source-lts.Need-same-length (
-  kind-at-reads.Asked,
-  kind-at-reads.Learnt,
-  is-fold-reads.Asked,
-  is-fold-reads.Learnt,
-  empty-reads.Asked,
-  empty-reads.Learnt,
-  scratch-fill-reads.Asked,
-  scratch-fill-reads.Learnt,
-  mix-below t,
-  mix.Post,
-  scratch-take-reads.Asked,
-  scratch-take-reads.Learnt,
-  chain-below t,
-  chain.Post,
-  leaf-reads.Asked,
-  leaf-reads.Learnt,
-) (source-at t) source.Post
-source-same-length t c = search needs
-
--- src/lib.rt:231:9
-source-same-length-2 : (t : ℕ) → source-lts.Need-same-length-2 (
-  kind-at-reads.Asked,
-  kind-at-reads.Learnt,
-  is-fold-reads.Asked,
-  is-fold-reads.Learnt,
-  empty-reads.Asked,
-  empty-reads.Learnt,
-  scratch-fill-reads.Asked,
-  scratch-fill-reads.Learnt,
-  mix-below t,
-  mix.Post,
-  scratch-take-reads.Asked,
-  scratch-take-reads.Learnt,
-  chain-below t,
-  chain.Post,
-  leaf-reads.Asked,
-  leaf-reads.Learnt,
-) (source-at t) source.Post
-source-same-length-2 t c = search needs
-
--- src/lib.rt:231:9
-source-same-length-3 : (t : ℕ) → source-lts.Need-same-length-3 (
-  kind-at-reads.Asked,
-  kind-at-reads.Learnt,
-  is-fold-reads.Asked,
-  is-fold-reads.Learnt,
-  empty-reads.Asked,
-  empty-reads.Learnt,
-  scratch-fill-reads.Asked,
-  scratch-fill-reads.Learnt,
-  mix-below t,
-  mix.Post,
-  scratch-take-reads.Asked,
-  scratch-take-reads.Learnt,
-  chain-below t,
-  chain.Post,
-  leaf-reads.Asked,
-  leaf-reads.Learnt,
-) (source-at t) source.Post
-source-same-length-3 t c = search needs
-
--- src/lib.rt:231:9
-source-same-length-4 : (t : ℕ) → source-lts.Need-same-length-4 (
-  kind-at-reads.Asked,
-  kind-at-reads.Learnt,
-  is-fold-reads.Asked,
-  is-fold-reads.Learnt,
-  empty-reads.Asked,
-  empty-reads.Learnt,
-  scratch-fill-reads.Asked,
-  scratch-fill-reads.Learnt,
-  mix-below t,
-  mix.Post,
-  scratch-take-reads.Asked,
-  scratch-take-reads.Learnt,
-  chain-below t,
-  chain.Post,
-  leaf-reads.Asked,
-  leaf-reads.Learnt,
-) (source-at t) source.Post
-source-same-length-4 t c = search needs
-
--- src/lib.rt:231:9
-source-same-length-5 : (t : ℕ) → source-lts.Need-same-length-5 (
-  kind-at-reads.Asked,
-  kind-at-reads.Learnt,
-  is-fold-reads.Asked,
-  is-fold-reads.Learnt,
-  empty-reads.Asked,
-  empty-reads.Learnt,
-  scratch-fill-reads.Asked,
-  scratch-fill-reads.Learnt,
-  mix-below t,
-  mix.Post,
-  scratch-take-reads.Asked,
-  scratch-take-reads.Learnt,
-  chain-below t,
-  chain.Post,
-  leaf-reads.Asked,
-  leaf-reads.Learnt,
-) (source-at t) source.Post
-source-same-length-5 t c = search needs
-
--- src/lib.rt:231:9
-source-same-length-6 : (t : ℕ) → source-lts.Need-same-length-6 (
-  kind-at-reads.Asked,
-  kind-at-reads.Learnt,
-  is-fold-reads.Asked,
-  is-fold-reads.Learnt,
-  empty-reads.Asked,
-  empty-reads.Learnt,
-  scratch-fill-reads.Asked,
-  scratch-fill-reads.Learnt,
-  mix-below t,
-  mix.Post,
-  scratch-take-reads.Asked,
-  scratch-take-reads.Learnt,
-  chain-below t,
-  chain.Post,
-  leaf-reads.Asked,
-  leaf-reads.Learnt,
-) (source-at t) source.Post
-source-same-length-6 t c = search needs
-
--- src/lib.rt:231:9
 source-returns : (t : ℕ) → source-lts.Need-returns (
   kind-at-reads.Asked,
   kind-at-reads.Learnt,
@@ -1049,132 +690,6 @@ source-chain-requires t c κs = let s = (c .before .before .before .before .befo
     let hi = s .pre .1 .3 in
     let h : i < countOf S = omega (arith, hi, vo .passed .count) in
     (omega (arith, s .pre .0, hi), (R, s .pre .1 .1, s .pre .1 .2, hi, sym ((c .before .before .before .before .before .before .before .before .before .kind-at) .ensures) ∙ (c .before .before .before .before .before .before .if2) .taken))
-
--- src/lib.rt:238:9
-source-same-length-7 : (t : ℕ) → source-lts.Need-same-length-7 (
-  kind-at-reads.Asked,
-  kind-at-reads.Learnt,
-  is-fold-reads.Asked,
-  is-fold-reads.Learnt,
-  empty-reads.Asked,
-  empty-reads.Learnt,
-  scratch-fill-reads.Asked,
-  scratch-fill-reads.Learnt,
-  mix-below t,
-  mix.Post,
-  scratch-take-reads.Asked,
-  scratch-take-reads.Learnt,
-  chain-below t,
-  chain.Post,
-  leaf-reads.Asked,
-  leaf-reads.Learnt,
-) (source-at t) source.Post
-source-same-length-7 t c = search needs
-
--- src/lib.rt:238:9
-source-same-length-8 : (t : ℕ) → source-lts.Need-same-length-8 (
-  kind-at-reads.Asked,
-  kind-at-reads.Learnt,
-  is-fold-reads.Asked,
-  is-fold-reads.Learnt,
-  empty-reads.Asked,
-  empty-reads.Learnt,
-  scratch-fill-reads.Asked,
-  scratch-fill-reads.Learnt,
-  mix-below t,
-  mix.Post,
-  scratch-take-reads.Asked,
-  scratch-take-reads.Learnt,
-  chain-below t,
-  chain.Post,
-  leaf-reads.Asked,
-  leaf-reads.Learnt,
-) (source-at t) source.Post
-source-same-length-8 t c = search needs
-
--- src/lib.rt:238:9
-source-same-length-9 : (t : ℕ) → source-lts.Need-same-length-9 (
-  kind-at-reads.Asked,
-  kind-at-reads.Learnt,
-  is-fold-reads.Asked,
-  is-fold-reads.Learnt,
-  empty-reads.Asked,
-  empty-reads.Learnt,
-  scratch-fill-reads.Asked,
-  scratch-fill-reads.Learnt,
-  mix-below t,
-  mix.Post,
-  scratch-take-reads.Asked,
-  scratch-take-reads.Learnt,
-  chain-below t,
-  chain.Post,
-  leaf-reads.Asked,
-  leaf-reads.Learnt,
-) (source-at t) source.Post
-source-same-length-9 t c = search needs
-
--- src/lib.rt:238:9
-source-same-length-10 : (t : ℕ) → source-lts.Need-same-length-10 (
-  kind-at-reads.Asked,
-  kind-at-reads.Learnt,
-  is-fold-reads.Asked,
-  is-fold-reads.Learnt,
-  empty-reads.Asked,
-  empty-reads.Learnt,
-  scratch-fill-reads.Asked,
-  scratch-fill-reads.Learnt,
-  mix-below t,
-  mix.Post,
-  scratch-take-reads.Asked,
-  scratch-take-reads.Learnt,
-  chain-below t,
-  chain.Post,
-  leaf-reads.Asked,
-  leaf-reads.Learnt,
-) (source-at t) source.Post
-source-same-length-10 t c = search needs
-
--- src/lib.rt:238:9
-source-same-length-11 : (t : ℕ) → source-lts.Need-same-length-11 (
-  kind-at-reads.Asked,
-  kind-at-reads.Learnt,
-  is-fold-reads.Asked,
-  is-fold-reads.Learnt,
-  empty-reads.Asked,
-  empty-reads.Learnt,
-  scratch-fill-reads.Asked,
-  scratch-fill-reads.Learnt,
-  mix-below t,
-  mix.Post,
-  scratch-take-reads.Asked,
-  scratch-take-reads.Learnt,
-  chain-below t,
-  chain.Post,
-  leaf-reads.Asked,
-  leaf-reads.Learnt,
-) (source-at t) source.Post
-source-same-length-11 t c = search needs
-
--- src/lib.rt:238:9
-source-same-length-12 : (t : ℕ) → source-lts.Need-same-length-12 (
-  kind-at-reads.Asked,
-  kind-at-reads.Learnt,
-  is-fold-reads.Asked,
-  is-fold-reads.Learnt,
-  empty-reads.Asked,
-  empty-reads.Learnt,
-  scratch-fill-reads.Asked,
-  scratch-fill-reads.Learnt,
-  mix-below t,
-  mix.Post,
-  scratch-take-reads.Asked,
-  scratch-take-reads.Learnt,
-  chain-below t,
-  chain.Post,
-  leaf-reads.Asked,
-  leaf-reads.Learnt,
-) (source-at t) source.Post
-source-same-length-12 t c = search needs
 
 -- src/lib.rt:238:9
 source-returns-2 : (t : ℕ) → source-lts.Need-returns-2 (
@@ -1235,111 +750,6 @@ source-leaf-requires t c κs = let s = (c .before .before .before .before .befor
     (R, hi, s .pre .1 .4, f, (λ q. (c .before .before .before .before .before .if2) .left ((c .before .before .before .before .before .before .before .before .kind-at) .ensures ∙ q)), s .pre .1 .2)
 
 -- src/lib.rt:199:1
-source-same-length-13 : (t : ℕ) → source-lts.Need-same-length-13 (
-  kind-at-reads.Asked,
-  kind-at-reads.Learnt,
-  is-fold-reads.Asked,
-  is-fold-reads.Learnt,
-  empty-reads.Asked,
-  empty-reads.Learnt,
-  scratch-fill-reads.Asked,
-  scratch-fill-reads.Learnt,
-  mix-below t,
-  mix.Post,
-  scratch-take-reads.Asked,
-  scratch-take-reads.Learnt,
-  chain-below t,
-  chain.Post,
-  leaf-reads.Asked,
-  leaf-reads.Learnt,
-) (source-at t) source.Post
-source-same-length-13 t c = search needs
-
--- src/lib.rt:199:1
-source-same-length-14 : (t : ℕ) → source-lts.Need-same-length-14 (
-  kind-at-reads.Asked,
-  kind-at-reads.Learnt,
-  is-fold-reads.Asked,
-  is-fold-reads.Learnt,
-  empty-reads.Asked,
-  empty-reads.Learnt,
-  scratch-fill-reads.Asked,
-  scratch-fill-reads.Learnt,
-  mix-below t,
-  mix.Post,
-  scratch-take-reads.Asked,
-  scratch-take-reads.Learnt,
-  chain-below t,
-  chain.Post,
-  leaf-reads.Asked,
-  leaf-reads.Learnt,
-) (source-at t) source.Post
-source-same-length-14 t c = search needs
-
--- src/lib.rt:199:1
-source-same-length-15 : (t : ℕ) → source-lts.Need-same-length-15 (
-  kind-at-reads.Asked,
-  kind-at-reads.Learnt,
-  is-fold-reads.Asked,
-  is-fold-reads.Learnt,
-  empty-reads.Asked,
-  empty-reads.Learnt,
-  scratch-fill-reads.Asked,
-  scratch-fill-reads.Learnt,
-  mix-below t,
-  mix.Post,
-  scratch-take-reads.Asked,
-  scratch-take-reads.Learnt,
-  chain-below t,
-  chain.Post,
-  leaf-reads.Asked,
-  leaf-reads.Learnt,
-) (source-at t) source.Post
-source-same-length-15 t c = search needs
-
--- src/lib.rt:199:1
-source-same-length-16 : (t : ℕ) → source-lts.Need-same-length-16 (
-  kind-at-reads.Asked,
-  kind-at-reads.Learnt,
-  is-fold-reads.Asked,
-  is-fold-reads.Learnt,
-  empty-reads.Asked,
-  empty-reads.Learnt,
-  scratch-fill-reads.Asked,
-  scratch-fill-reads.Learnt,
-  mix-below t,
-  mix.Post,
-  scratch-take-reads.Asked,
-  scratch-take-reads.Learnt,
-  chain-below t,
-  chain.Post,
-  leaf-reads.Asked,
-  leaf-reads.Learnt,
-) (source-at t) source.Post
-source-same-length-16 t c = search needs
-
--- src/lib.rt:199:1
-source-same-length-17 : (t : ℕ) → source-lts.Need-same-length-17 (
-  kind-at-reads.Asked,
-  kind-at-reads.Learnt,
-  is-fold-reads.Asked,
-  is-fold-reads.Learnt,
-  empty-reads.Asked,
-  empty-reads.Learnt,
-  scratch-fill-reads.Asked,
-  scratch-fill-reads.Learnt,
-  mix-below t,
-  mix.Post,
-  scratch-take-reads.Asked,
-  scratch-take-reads.Learnt,
-  chain-below t,
-  chain.Post,
-  leaf-reads.Asked,
-  leaf-reads.Learnt,
-) (source-at t) source.Post
-source-same-length-17 t c = search needs
-
--- src/lib.rt:199:1
 source-returns-3 : (t : ℕ) → source-lts.Need-returns-3 (
   kind-at-reads.Asked,
   kind-at-reads.Learnt,
@@ -1378,7 +788,7 @@ pub +chain+mix+source-spec : {M : Type 1} → statement M
     chain-Inv-loop
     chain-μ-loop
     (chain-mul-j t)
-    (chain-shared-slice-read-j t)
+    (λ c. search needs)
     (chain-loop-holds t)
     (chain-source-requires t)
     (chain-mul-j-2 t)
@@ -1407,24 +817,24 @@ pub +chain+mix+source-spec : {M : Type 1} → statement M
     mix-Inv-loop
     mix-μ-loop
     (mix-kind-at-requires t)
-    (mix-mul-at t)
-    (mix-shared-slice-read-at t)
-    (mix-mul-j t)
-    (mix-shared-slice-read-j t)
+    (λ c. search needs)
+    (λ c. search needs)
+    (λ c. search needs)
+    (λ c. search needs)
     (mix-loop-holds t)
-    (mix-fill-block-requires t)
+    (λ c κs. search needs)
     (mix-source-requires t)
     (mix-scratch-join-requires t)
     (mix-mul-j-2 t)
     (mix-shared-slice-read-j-2 t)
     (mix-loop-less t)
     (mix-loop-again t)
-    (mix-same-length t)
-    (mix-same-length-2 t)
-    (mix-same-length-3 t)
-    (mix-same-length-4 t)
-    (mix-same-length-5 t)
-    (mix-same-length-6 t)
+    (λ c. search needs)
+    (λ c. search needs)
+    (λ c. search needs)
+    (λ c. search needs)
+    (λ c. search needs)
+    (λ c. search needs)
     (mix-returns t))
     λ t. source-lts.spec (
       kind-at-reads.Asked,
@@ -1447,32 +857,32 @@ pub +chain+mix+source-spec : {M : Type 1} → statement M
     (source-at t)
     source.Post
     (source-kind-at-requires t)
-    (source-is-fold-requires t)
-    (source-mul-at t)
-    (source-shared-slice-read-at t)
-    (source-empty-requires t)
+    (λ c κs. search needs)
+    (λ c. search needs)
+    (λ c. search needs)
+    (λ c κs. search needs)
     (source-scratch-fill-requires t)
     (source-mix-requires t)
     (source-scratch-take-requires t)
-    (source-same-length t)
-    (source-same-length-2 t)
-    (source-same-length-3 t)
-    (source-same-length-4 t)
-    (source-same-length-5 t)
-    (source-same-length-6 t)
+    (λ c. search needs)
+    (λ c. search needs)
+    (λ c. search needs)
+    (λ c. search needs)
+    (λ c. search needs)
+    (λ c. search needs)
     (source-returns t)
     (source-chain-requires t)
-    (source-same-length-7 t)
-    (source-same-length-8 t)
-    (source-same-length-9 t)
-    (source-same-length-10 t)
-    (source-same-length-11 t)
-    (source-same-length-12 t)
+    (λ c. search needs)
+    (λ c. search needs)
+    (λ c. search needs)
+    (λ c. search needs)
+    (λ c. search needs)
+    (λ c. search needs)
     (source-returns-2 t)
     (source-leaf-requires t)
-    (source-same-length-13 t)
-    (source-same-length-14 t)
-    (source-same-length-15 t)
-    (source-same-length-16 t)
-    (source-same-length-17 t)
+    (λ c. search needs)
+    (λ c. search needs)
+    (λ c. search needs)
+    (λ c. search needs)
+    (λ c. search needs)
     (source-returns-3 t)

@@ -1,7 +1,8 @@
+-- `walk::leaf` meets its contract. Assumes nothing.
 use mathlib.Core.Path.{_≡_, refl, sym, ap, _∙_}
 use Prim.Native.Nat.{_+_, _*_, _≤_, _<_}
 use native.Mathlib.Omega.{arith}
-use lib.ListN.{length, getD}
+use lib.ListN.{getD}
 use Rattle.sheet.specs.Record.{countOf, kind}
 use Rattle.layout.specs.Built.{role, begin, after}
 use Rattle.units.specs.Values.{valuesOf, node-unit, value-unit}
@@ -10,24 +11,6 @@ use Rattle.walk.specs.Leaf.{leafed-silent, leafed-none, leafed-one, leaf
 use borrow.Author.Needs.{needs}
 use Rattle.walk.proofs.leaf.Statement.{statement}
 use Rattle.walk.proofs.leaf.Tie as tie
-use Rattle.walk.proofs.leaf.Reads as reads
-use Rattle.walk.proofs.leaf.Lts as lts
-use Rattle.units.proofs.values_of.Reads as values-of-reads
-use Rattle.walk.proofs.fill_block.Reads as fill-block-reads
-use Rattle.walk.proofs.kind_at.Reads as kind-at-reads
-use Rattle.walk.proofs.own.Reads as own-reads
-
--- src/lib.rt:178:8
-shared-slice-read-if1 : tie.Need-shared-slice-read-if1
-shared-slice-read-if1 c = search needs
-
--- src/lib.rt:179:9
-fill-block-requires : tie.Need-fill-block-requires
-fill-block-requires c κs = search needs
-
--- src/lib.rt:180:9
-same-length : tie.Need-same-length
-same-length c = search needs
 
 -- src/lib.rt:180:9
 returns : tie.Need-returns
@@ -51,10 +34,6 @@ kind-at-requires c κs = let s = (c .before .before .before .before .before .bef
     let h : i < countOf S = omega (arith, vo .passed .count) in
     (h, omega (arith, vo .passed .count, vo .passed .small), omega (arith, vo .passed .count, vo .passed .long))
 
--- src/lib.rt:182:9
-values-of-requires : tie.Need-values-of-requires
-values-of-requires c κs = search needs
-
 -- src/lib.rt:184:9
 own-requires : tie.Need-own-requires
 own-requires c κs = let s = (c .before .before .before .before .before .before .before .before .before .before .before .before .before .before .before .before .before .before .before .before .before) in
@@ -70,18 +49,6 @@ own-requires c κs = let s = (c .before .before .before .before .before .before 
     (lends-unit R i h b u refl l l, s .pre .5)
 
 -- src/lib.rt:185:9
-same-length-2 : tie.Need-same-length-2
-same-length-2 c = search needs
-
--- src/lib.rt:185:9
-same-length-3 : tie.Need-same-length-3
-same-length-3 c = search needs
-
--- src/lib.rt:185:9
-same-length-4 : tie.Need-same-length-4
-same-length-4 c = search needs
-
--- src/lib.rt:185:9
 returns-2 : tie.Need-returns-2
 returns-2 c = let s = (c .before .before .before .before .before .before .before .before .before .before .before .before .before .before .before .before .before .before .before .before .before .before .before .before .before .before .before .before) in
     let R = s .pre .0 in
@@ -94,14 +61,6 @@ returns-2 c = let s = (c .before .before .before .before .before .before .before
     let e = (c .before .before .before .before .before .before .before .before .before .before .before .values-of) .ensures ∙ ap valuesOf ((c .before .before .before .before .before .before .before .before .before .before .before .before .kind-at) .ensures) in
     let z = sym e ∙ (c .before .before .before .before .before .before .before .before .before .before .if2) .taken in
     leafed-none vo i h (leaf-is S i (s .pre .3) (s .pre .4)) (leaf-none-is vo i h (s .pre .3) (s .pre .4) z) (s .args .c) _ _ _ _ _ _ (s .pre .5) (leaf-played S i 0 (s .args .c) _ _ _ _ _ _ _ _ z ((c .before .before .before .before .before .before .own) .ensures))
-
--- src/lib.rt:187:13
-mul-j : tie.Need-mul-j
-mul-j c = search needs
-
--- src/lib.rt:187:13
-shared-slice-read-j : tie.Need-shared-slice-read-j
-shared-slice-read-j c = search needs
 
 -- src/lib.rt:188:5
 own-requires-2 : tie.Need-own-requires-2
@@ -139,22 +98,6 @@ own-requires-3 c κs = let s = (c .before .before .before .before .before .befor
     let a1 = played-sound vo (begin S i) (w .in-sheet) (s .args .c) _ _ _ _ _ _ _ (s .pre .5) p in
     let lv = (c .before .before .before .before .before .before .before .before .before .before .before .own2) .kept .1 .1 .1 .1 .1 .1 .1 .0 ∙ R .first-buffer in
     (lends-unit R i h b u refl (omega (arith, lv)) (omega (arith, lv)), a1)
-
--- src/lib.rt:191:9
-same-length-5 : tie.Need-same-length-5
-same-length-5 c = search needs
-
--- src/lib.rt:191:9
-same-length-6 : tie.Need-same-length-6
-same-length-6 c = search needs
-
--- src/lib.rt:191:9
-same-length-7 : tie.Need-same-length-7
-same-length-7 c = search needs
-
--- src/lib.rt:191:9
-same-length-8 : tie.Need-same-length-8
-same-length-8 c = search needs
 
 -- src/lib.rt:191:9
 returns-3 : tie.Need-returns-3
@@ -256,24 +199,8 @@ own-requires-5 c κs = let s = (c .before .before .before .before .before .befor
     (lends-unit R i h b u refl (omega (arith, lv)) (omega (arith, lw)), a2)
 
 -- src/lib.rt:157:1
-same-length-9 : tie.Need-same-length-9
-same-length-9 c = search needs
-
--- src/lib.rt:157:1
 same-length-10 : tie.Need-same-length-10
 same-length-10 c = (c .before .before .before .before .before .before .before .before .before .before .before .before .before .before .before .before .before .before .before .before .before .before .before .before .before .before .before .before .before .before .own2) .kept .1 .1 .1 .1 .1 .1 .1 .0
-
--- src/lib.rt:157:1
-same-length-11 : tie.Need-same-length-11
-same-length-11 c = search needs
-
--- src/lib.rt:157:1
-same-length-12 : tie.Need-same-length-12
-same-length-12 c = search needs
-
--- src/lib.rt:157:1
-same-length-13 : tie.Need-same-length-13
-same-length-13 c = search needs
 
 -- src/lib.rt:157:1
 returns-4 : tie.Need-returns-4
@@ -302,33 +229,33 @@ pub leaf-spec : {M : Type 1} → statement M
 leaf-spec =
     tie.close
     (tie.spec
-    shared-slice-read-if1
-    fill-block-requires
-    same-length
+    (λ c. search needs)
+    (λ c κs. search needs)
+    (λ c. search needs)
     returns
     kind-at-requires
-    values-of-requires
+    (λ c κs. search needs)
     own-requires
-    same-length-2
-    same-length-3
-    same-length-4
+    (λ c. search needs)
+    (λ c. search needs)
+    (λ c. search needs)
     returns-2
-    mul-j
-    shared-slice-read-j
+    (λ c. search needs)
+    (λ c. search needs)
     own-requires-2
     own-requires-3
-    same-length-5
-    same-length-6
-    same-length-7
-    same-length-8
+    (λ c. search needs)
+    (λ c. search needs)
+    (λ c. search needs)
+    (λ c. search needs)
     returns-3
     mul-k
     shared-slice-read-k
     own-requires-4
     own-requires-5
-    same-length-9
+    (λ c. search needs)
     same-length-10
-    same-length-11
-    same-length-12
-    same-length-13
+    (λ c. search needs)
+    (λ c. search needs)
+    (λ c. search needs)
     returns-4)
