@@ -1,5 +1,5 @@
 -- A valid state stays valid: there is enough of each list, the position is at most 2^62, and what each record owns is sound, before and after every call.
--- What is assumed is that the voice is valid and that each unit keeps its own part sound.
+-- The laws up to the last part assume that the voice is valid and that each unit keeps its own part sound; the last part assumes nothing of an accepted sheet.
 use mathlib.Core.Path.{_≡_, refl, sym, subst, _∙_}
 use mathlib.Core.Bool.{Bool, true, false, cond, _&&_}
 use mathlib.Core.List.{List, [], _∷_, _++_}
@@ -16,7 +16,7 @@ use Rattle.block.specs.Patch.{Valid, All, blk-all}
 use Rattle.control.specs.declared.Controls.{Controls}
 use Rattle.control.specs.Moves.{leftFor, moved, pitchMoved, bendMoved}
 use Rattle.sheet.specs.Record.{countOf, rateOf, optionOf, numberOf, recordAt, kind}
-use Rattle.sheet.specs.Checks.{all}
+use Rattle.sheet.specs.Checks.{all, checkOf}
 use Rattle.sheet.specs.Laws.{both, all-at, all-of}
 use Rattle.lines.specs.Lines.{delayLine, chorusLine}
 use Rattle.layout.specs.Built.{role, isBuilt}
@@ -190,3 +190,20 @@ module _ (s : List ℕ) where
         let c = fill-answer s b q ∙ fill-right a b p h in
         let r = fill-sum s a b p e d c in
         (d, c, r .0, r .1)
+
+-- ---- for an accepted sheet nothing is assumed
+module _ (s : List ℕ) (e : checkOf s ≡ 0) where
+  -- A VALID STATE STAYS VALID, whatever the call, and whatever the list of calls
+  pub valid-stays : (k : Call) (p : State) → validOk s p ≡ true → validOk s (call s k p .1) ≡ true
+  valid-stays = valid-call s (voice-valid s e) (units-keep s e)
+
+  pub valid-lasts : (ks : List Call) (p : State) → validOk s p ≡ true → validOk s (machine s ks p .1) ≡ true
+  valid-lasts = valid-machine s (voice-valid s e) (units-keep s e)
+
+-- A FILL OF a + b IS A FILL OF a AND THEN A FILL OF b
+pub fill-in-two : (s : List ℕ) (a b : ℕ) (p : State) → call s (fill (a + b)) p .0 .0 ≡ 0 → let q = call s (fill a) p .1 in
+    (call s (fill a) p .0 .0 ≡ 0) × (call s (fill b) q .0 .0 ≡ 0)
+    × (call s (fill (a + b)) p .0 .1 ≡ call s (fill a) p .0 .1 ++ call s (fill b) q .0 .1) × (call s (fill (a + b)) p .1 ≡ call s (fill b) q .1)
+fill-in-two s a b p h =
+    let e = fill-passed s (a + b) p (sym (fill-answer s (a + b) p) ∙ h) .sheet in
+    fill-cut s (voice-valid s e) (units-keep s e) a b p h
