@@ -133,4 +133,15 @@ impl Processor {
         let Proc::Compress { at, rt, makeup, .. } = &self.0 else { panic!() };
         [*at, *rt, *makeup]
     }
+    /// The lengths of a reverb's lines, the combs' first, and its feedback.
+    pub fn reverb(&self) -> (Vec<u64>, f32) {
+        let Proc::Reverb { combs, allpasses, feedback, .. } = &self.0 else { panic!() };
+        let lens = combs.iter().map(|c| c.0.len()).chain(allpasses.iter().map(|a| a.0.len()));
+        (lens.map(|n| n as u64).collect(), *feedback)
+    }
+    /// The coefficients and the state of a modal's modes, five numbers each.
+    pub fn modes(&self) -> Vec<f32> {
+        let Proc::Modal { modes, .. } = &self.0 else { panic!() };
+        modes.iter().flat_map(|m| [m.a1, m.a2, m.b0, m.y1, m.y2]).collect()
+    }
 }

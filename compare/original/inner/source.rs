@@ -102,4 +102,9 @@ impl Source {
         let (Src::Noise { rng, .. } | Src::Dust { rng, .. }) = &self.0 else { panic!() };
         state(rng)
     }
+    /// The phases of a super's voices, then their ratios.
+    pub fn voices(&self) -> Vec<f32> {
+        let Src::Super { phases, ratios, .. } = &self.0 else { panic!() };
+        [phases.as_slice(), ratios].concat()
+    }
 }

@@ -6,6 +6,8 @@ use lib.Dec.{eqb}
 use lib.Ieee.{Float}
 use lib.ListN.{getD}
 use Rattle.block.specs.Iterate.{at}
+use Rattle.float.specs.Single.{one}
+use Rattle.control.specs.declared.Controls.{Controls}
 use Rattle.value.specs.declared.Rand.{Rand}
 use Rattle.source_block.specs.declared.Triangle.{Triangle}
 use Rattle.source_block.specs.declared.Fm.{Fm}
@@ -46,3 +48,7 @@ driveAt c = record { «x_prev» = at c 0; «f_prev» = at c 1; «dc_x» = at c 2
 unfoldable pub kindOf : ℕ → Float → FilterKind
 kindOf n db =
     cond (eqb n 0) FilterKind.Low (cond (eqb n 1) FilterKind.High (cond (eqb n 2) FilterKind.Band (cond (eqb n 3) FilterKind.Notch (cond (eqb n 4) (FilterKind.Peak db) (cond (eqb n 5) (FilterKind.LowShelf db) (FilterKind.HighShelf db))))))
+
+-- the controls at position t, with no move of pitch or bend
+abbrev pub playing : ℕ → Controls
+playing t = record { position = t; pitch = one; target = one; glide = one; bend = one }

@@ -1,11 +1,12 @@
-// The processors of `proc_block` and `line_block`.
+// The processors of `proc_block` and `line_block`, and those of `bank_block`.
 ghost use mathlib.Core.Path.{_≡_};
-ghost use Prim.Native.Nat.{_+_, _^_, _≤_, _<_};
+ghost use Prim.Native.Nat.{_+_, _*_, _^_, _≤_, _<_};
 ghost use lib.ListN.{length};
 ghost use Rattle.block.specs.Iterate.{given, at};
 ghost use Rattle.dsl.specs.Options.{driveShapeOf};
 ghost use Rattle.proc_block.specs.Steps.{gainStep, filterStep, driveStepAt, drivePlainStep, tremoloStep, compressStep};
 ghost use Rattle.line_block.specs.Steps.{delayStep, chorusStep};
+ghost use Rattle.bank_block.specs.Banks.{modalStep, reverbStep, lineFrom, Placed};
 ghost use Rattle.block_bench.specs.State.{wordAt, kindOf, filterAt, driveAt};
 
 #[no_mangle]
@@ -160,4 +161,29 @@ pub extern "C" fn block_chorus(
     ensures { λ v. ⌜ now (out .exit) ≡ given (chorusStep (now (out .entry)) base swing rate srf mix (length (now (line .entry))) t) (now (line .entry), wordAt (now (words .entry))) (length (now (out .entry))) ⌝ }
 {
     words[0] = line_block::chorus_block(out, line, base, swing, rate, srf, mix, t, words[0]);
+}
+
+// The cells are n modes of five each.
+#[no_mangle]
+pub extern "C" fn block_modal(out: &mut [f32], cells: &mut [f32], mix: f32, n: usize)
+    requires { ⌜ 5 * n ≤ length (now cells) ⌝ }
+    ensures { λ v. ⌜ now (out .exit) ≡ given (modalStep (now (out .entry)) mix n) (now (cells .entry)) (length (now (out .entry))) ⌝ }
+{
+    bank_block::modal_block(out, mix, n, cells);
+}
+
+// The cells are the ten lines and then the combs' six stores.
+#[no_mangle]
+pub extern "C" fn block_reverb(
+    out: &mut [f32],
+    lens: &[u64],
+    cells: &mut [f32],
+    regs: &mut [u64],
+    feedback: f32,
+    mix: f32,
+)
+    requires { ⌜ Placed (now lens) (now regs) × (length (now cells) ≡ lineFrom (now lens) 10 + 6) ⌝ }
+    ensures { λ v. ⌜ now (out .exit) ≡ given (reverbStep (now (out .entry)) feedback mix (now (lens .entry))) (now (cells .entry), now (regs .entry)) (length (now (out .entry))) ⌝ }
+{
+    bank_block::reverb_block(out, feedback, mix, lens, cells, regs);
 }

@@ -1,11 +1,17 @@
-// The values of `value_block`.
+// The values of `value_block`, and Arp, which reads its steps from a sheet, of `value_unit`.
 ghost use mathlib.Core.Path.{_≡_};
 ghost use Prim.Native.Nat.{_+_, _^_, _≤_, _<_};
+ghost use mathlib.Core.List.{[]};
 ghost use lib.ListN.{length};
 ghost use Rattle.block.specs.Iterate.{given};
 ghost use Rattle.dsl.specs.Options.{curveOf, shapeOf};
 ghost use Rattle.value_block.specs.Steps.{constantStep, slideStep, lfoStep, envModStep, randStep};
-ghost use Rattle.block_bench.specs.State.{randOf};
+ghost use Rattle.sheet.specs.Record.{next};
+ghost use Rattle.sheet.specs.Links.{Checked};
+ghost use Rattle.layout.specs.Tables.{Table, Passed};
+ghost use Rattle.unit.specs.Unit.{kindUnit};
+ghost use Rattle.unit.specs.Block.{steps, Lent};
+ghost use Rattle.block_bench.specs.State.{randOf, playing};
 
 #[no_mangle]
 pub extern "C" fn block_constant(out: &mut [f32], x: f32)
@@ -87,4 +93,43 @@ pub extern "C" fn block_rand(
     let r = value_block::rand_block(out, inc, from, to, s);
     words[0] = r.word;
     crate::cells::store3(cells, 0, r.prev, r.next, r.phase);
+}
+
+// The checks of a sheet, for `block_arp`: where they find no fault, 0, next is its table.
+#[no_mangle]
+pub extern "C" fn block_check(
+    sheet: &[u8],
+    kinds: &mut [u8],
+    first: &mut [usize],
+    next: &mut [usize],
+) -> u8
+    requires { ⌜ (256 ≤ length (now kinds)) × (256 ≤ length (now first)) × (256 ≤ length (now next)) ⌝ }
+    ensures { λ r. ⌜ Checked (now (sheet .entry)) (now (kinds .exit)) (now (first .exit)) (now (next .exit)) r ⌝ }
+{
+    sheet::check(sheet, kinds, first, next)
+}
+
+// Record i of a sheet that passes the checks; an Arp owns no cells and no registers.
+#[no_mangle]
+pub extern "C" fn block_arp(
+    out: &mut [f32],
+    sheet: &[u8],
+    nexts: &[usize],
+    cells: &mut [f32],
+    regs: &mut [u64],
+    count: usize,
+    i: usize,
+    t: u64,
+)
+    requires { ⌜ Lent (now sheet) i 44 (length (now cells)) (length (now regs)) × Passed (now sheet) count × Table (next (now sheet)) count (now nexts) × (t + length (now out) < 2 ^ 64) ⌝ }
+    ensures { λ v. ⌜ now (out .exit) ≡ given (steps (kindUnit (now (sheet .entry)) i) (playing t) [] (now (out .entry))) (now (cells .entry), now (regs .entry)) (length (now (out .entry))) ⌝ }
+{
+    let c = control::Controls {
+        position: t,
+        pitch: 1.0,
+        target: 1.0,
+        glide: 1.0,
+        bend: 1.0,
+    };
+    value_unit::play(sheet, count, nexts, i, 44, c, out, cells, regs);
 }

@@ -128,20 +128,21 @@ fn adsr_level(t: f32, a: f32, d: f32, s: f32, r: f32, rel_start: f32) -> f32
     0.0
 }
 
-// The envelope at t seconds, with the release from rel_start on.
+// The envelope at t seconds, with the release from rel_start on. The punch's window is told first: in it the level has two stages.
 pub fn adsr_env(t: f32, a: f32, d: f32, s: f32, r: f32, punch: f32, rel_start: f32) -> f32
     ensures { λ v. ⌜ v ≡ adsrOf t a d s r punch «rel_start» ⌝ }
 {
-    let v = adsr_level(t, a, d, s, r, rel_start);
     let punch_win = a + d;
-    if punch > 0.0 {
-        if punch_win > 0.0 {
-            if t < punch_win {
+    if t < punch_win {
+        let v = adsr_level(t, a, d, s, r, rel_start);
+        if punch > 0.0 {
+            if punch_win > 0.0 {
                 return v * (1.0 + punch * (1.0 - t / punch_win));
             }
         }
+        return v;
     }
-    v
+    adsr_level(t, a, d, s, r, rel_start)
 }
 
 // ---- det.rs's functions under dsp.rs's names

@@ -22,16 +22,12 @@ pub struct Row {
     /// The position goes back to 0 rather than past this.
     end: usize,
     rust: Kernel,
-    /// None: not ported yet.
-    port: Option<Kernel>,
+    port: Kernel,
 }
 
 impl Row {
     pub fn new(name: impl Into<String>, rust: Kernel, port: Kernel) -> Row {
-        Row { name: name.into(), end: usize::MAX, rust, port: Some(port) }
-    }
-    pub fn rust_only(name: impl Into<String>, rust: Kernel) -> Row {
-        Row { name: name.into(), end: usize::MAX, rust, port: None }
+        Row { name: name.into(), end: usize::MAX, rust, port }
     }
     pub fn until(self, end: usize) -> Row {
         Row { end, ..self }
@@ -66,7 +62,7 @@ fn pass(kernel: &mut Kernel, cuts: &[usize], end: usize, buf: &mut [f32]) -> f64
 /// The best times of both, and how many samples were compared and differ.
 struct Measured {
     rust: f64,
-    port: Option<f64>,
+    port: f64,
     compared: usize,
     differ: usize,
 }
@@ -75,14 +71,12 @@ fn measure(row: &mut Row, cuts: &[usize], input: &[f32]) -> Measured {
     let whole: usize = cuts.iter().sum();
     let input = &input[..SAMPLES / whole * whole];
     let (mut theirs, mut ours) = (input.to_vec(), input.to_vec());
-    let mut best = Measured { rust: f64::INFINITY, port: None, compared: 0, differ: 0 };
+    let mut best = Measured { rust: f64::INFINITY, port: f64::INFINITY, compared: 0, differ: 0 };
     for _ in 0..RUNS {
         theirs.copy_from_slice(input);
         best.rust = best.rust.min(pass(&mut row.rust, cuts, row.end, &mut theirs));
-        let Some(kernel) = &mut row.port else { continue };
         ours.copy_from_slice(input);
-        let time = pass(kernel, cuts, row.end, &mut ours);
-        best.port = Some(best.port.map_or(time, |t| t.min(time)));
+        best.port = best.port.min(pass(&mut row.port, cuts, row.end, &mut ours));
         best.compared += ours.len();
         best.differ += ours.iter().zip(&theirs).filter(|(a, b)| !a.same(**b)).count();
     }
@@ -102,11 +96,8 @@ pub fn run(word: Option<&str>) -> ExitCode {
         print!("| {} |", row.name);
         for cuts in LENGTHS {
             let best = measure(row, cuts, &input);
-            let rust = best.rust;
-            match best.port {
-                Some(port) => print!(" {rust:.2} | {port:.2} | {:.2} |", port / rust),
-                None => print!(" {rust:.2} | | |"),
-            }
+            let (rust, port) = (best.rust, best.port);
+            print!(" {rust:.2} | {port:.2} | {:.2} |", port / rust);
             if best.differ > 0 {
                 eprintln!("{}, blocks of {cuts:?}: {} samples differ", row.name, best.differ);
             }

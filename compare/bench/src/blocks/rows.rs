@@ -12,6 +12,8 @@ const SRF: f32 = SR as f32;
 /// The length of the sheet: an envelope has all its stages in one pass.
 const N: usize = 4_096;
 const BLOCK: usize = 256;
+/// A link of a sheet to no record.
+const NONE: u16 = 0;
 /// What every Rust node starts with where the port reads cells.
 const FILTER: [f32; 11] = [1.0, f32::NAN, 0.0, 0.0, 0.0, 0.0, 0.0, 0.0, 0.0, 0.0, 0.0];
 
@@ -77,6 +79,34 @@ fn rand(name: &str, rate: f32) -> Row {
     Row::new(name, constant_or(v), Box::new(move |out, _| block_rand(out, &mut cells, &mut words, inc, 200.0, 900.0)))
 }
 
+/// A record of a sheet: its kind, the index of its chain's first record, of the one after it, and its first number.
+fn record(kind: u8, first: u16, next: u16, number: f32) -> Vec<u8> {
+    let head = [kind, 0].into_iter().chain([first, next, 0].into_iter().flat_map(u16::to_le_bytes));
+    head.chain(number.to_le_bytes()).chain([0; 28]).collect()
+}
+
+/// A Sine whose frequency is an Arp of these steps, and the Arp's place in it.
+fn arp_sheet(steps: &[f32], rate: f32) -> (Vec<u8>, usize) {
+    let count = steps.len() as u16 + 2;
+    let mut sheet = [&count.to_le_bytes()[..], &[0; 2], &SR.to_le_bytes(), &(N as u64).to_le_bytes(), &[0; 8]].concat();
+    sheet.extend(record(1, 1, NONE, 0.0));
+    sheet.extend(record(44, 2, NONE, rate));
+    for (k, step) in (3..).zip(steps) {
+        sheet.extend(record(52, NONE, if k < count { k } else { NONE }, *step));
+    }
+    (sheet, 1)
+}
+
+fn arp() -> Row {
+    let steps = vec![1.0, 2.0, 3.0, 4.0];
+    let (mut sheet, i) = arp_sheet(&steps, 8.0);
+    let (count, mut nexts) = (steps.len() + 2, [0; 256]);
+    assert_eq!(block_check(&mut sheet, &mut [0; 256], &mut [0; 256], &mut nexts), 0);
+    let port: Kernel =
+        Box::new(move |out, t| block_arp(out, &mut sheet, &mut nexts, &mut [], &mut [], count, i, t as u64));
+    Row::new("Arp, 4 steps", value(Modulator::Arp { steps, rate: 8.0 }), port)
+}
+
 fn values() -> Vec<Row> {
     vec![
         Row::new("Const", constant_or(Value::Const(440.0)), Box::new(|out, _| block_constant(out, 440.0))),
@@ -86,7 +116,7 @@ fn values() -> Vec<Row> {
         lfo("Lfo, square", Shape::Square),
         lfo("Lfo, triangle", Shape::Triangle),
         lfo("Lfo, saw", Shape::Saw),
-        Row::rust_only("Arp, 4 steps", value(Modulator::Arp { steps: vec![1.0, 2.0, 3.0, 4.0], rate: 8.0 })),
+        arp(),
         env_mod(),
         rand("Rand, 4 a second", 4.0),
         rand("Rand, 10,000 a second", 10_000.0),
@@ -126,7 +156,14 @@ fn two_valued() -> Vec<Row> {
 }
 
 fn unison(name: &str, wave: SuperWave) -> Row {
-    Row::rust_only(name, source(Node::Super { wave, freq: Value::Const(440.0), voices: 7, detune_cents: 15.0 }))
+    let node = Node::Super { wave, freq: Value::Const(440.0), voices: 7, detune_cents: 15.0 };
+    let (mut f, mut pitch) = (Constant::of(440.0), [1.0; BLOCK]);
+    let mut cells = Source::build(&node, SR, N).voices();
+    let port: Kernel = Box::new(move |out, _| {
+        let n = out.len();
+        block_super(out, f.block(n), &mut pitch[..n], &mut cells, wave as u8, 7, SRF);
+    });
+    Row::new(name, source(node), port)
 }
 
 fn impact() -> Vec<Row> {
@@ -255,14 +292,25 @@ fn lines() -> Vec<Row> {
         Box::new(move |out, t| block_chorus(out, &mut line, &mut words, base, swing, 1.5, SRF, 0.4, t as u64));
     vec![
         Row::new("Delay", processor(delay()), echo),
-        Row::rust_only("Reverb", processor(Node::Reverb { room: 0.6, mix: 0.3 })),
+        reverb(),
         Row::new("Chorus", processor(Node::Chorus { rate: 1.5, depth: 0.5, mix: 0.4 }), chorus),
     ]
 }
 
+fn reverb() -> Row {
+    let node = Node::Reverb { room: 0.6, mix: 0.3 };
+    let (mut lens, feedback) = Processor::build(&node, SR, N).reverb();
+    let (mut cells, mut places) = (vec![0.0; lens.iter().sum::<u64>() as usize + 6], [0; 10]);
+    let port: Kernel = Box::new(move |out, _| block_reverb(out, &mut lens, &mut cells, &mut places, feedback, 0.3));
+    Row::new("Reverb", processor(node), port)
+}
+
 fn modal(name: &str, count: usize) -> Row {
     let mode = |k: usize| Mode { freq: 300.0 * (k as f32 * 1.7 + 1.0), decay: 0.8 / (k as f32 + 1.0), gain: 0.5 };
-    Row::rust_only(name, processor(Node::Modal { modes: (0..count).map(mode).collect(), mix: 0.7 }))
+    let node = Node::Modal { modes: (0..count).map(mode).collect(), mix: 0.7 };
+    let mut cells = Processor::build(&node, SR, N).modes();
+    let port: Kernel = Box::new(move |out, _| block_modal(out, &mut cells, 0.7, count));
+    Row::new(name, processor(node), port)
 }
 
 fn levels() -> Vec<Row> {
