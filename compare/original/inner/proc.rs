@@ -145,3 +145,30 @@ impl Processor {
         modes.iter().flat_map(|m| [m.a1, m.a2, m.b0, m.y1, m.y2]).collect()
     }
 }
+/// Adds the cells and the registers that a processor owns, and then those of its values.
+pub(in crate::streaming) fn state(proc: &Proc, cells: &mut Vec<f32>, registers: &mut Vec<u64>) {
+    use crate::streaming::value::inner::state as of_value;
+    match proc {
+        Proc::Gain(amount) => of_value(amount, cells, registers),
+        Proc::Biquad { cutoff, scale, prev_f, b0, b1, b2, a1, a2, x1, x2, y1, y2, .. } => {
+            cells.extend([scale, prev_f, b0, b1, b2, a1, a2, x1, x2, y1, y2].map(|x| *x));
+            of_value(cutoff, cells, registers);
+        }
+        Proc::Delay { buf, w, .. } | Proc::Chorus { buf, w, .. } => {
+            cells.extend(buf);
+            registers.push(*w as u64);
+        }
+        Proc::Reverb { combs, allpasses, .. } => {
+            combs.iter().for_each(|(line, w, _)| (cells.extend(line), registers.push(*w as u64)).1);
+            allpasses.iter().for_each(|(line, w)| (cells.extend(line), registers.push(*w as u64)).1);
+            cells.extend(combs.iter().map(|(_, _, store)| *store));
+        }
+        Proc::Modal { modes, .. } => modes.iter().for_each(|m| cells.extend([m.a1, m.a2, m.b0, m.y1, m.y2])),
+        Proc::Drive { amount, x_prev, f_prev, dc_x, dc_y, .. } => {
+            cells.extend([*x_prev, *f_prev, *dc_x, *dc_y]);
+            of_value(amount, cells, registers);
+        }
+        Proc::Tremolo { .. } => {}
+        Proc::Compress { env, at, rt, makeup, .. } => cells.extend([*env, *at, *rt, *makeup]),
+    }
+}

@@ -108,3 +108,90 @@ impl Source {
         [phases.as_slice(), ratios].concat()
     }
 }
+/// Adds the cells and the registers that a source owns, and then those of its chain, in its order.
+fn state_of(src: &Src, cells: &mut Vec<f32>, registers: &mut Vec<u64>) {
+    let mut values: Vec<&Val> = Vec::new();
+    match src {
+        Src::Silence | Src::Impact { .. } | Src::Env { .. } | Src::Seq { .. } => {}
+        Src::Sine { phase, freq, .. } | Src::Saw { phase, freq, .. } => {
+            cells.push(*phase);
+            values.push(freq);
+        }
+        Src::Square { phase, freq, duty, .. } => {
+            cells.push(*phase);
+            values.extend([freq, duty]);
+        }
+        Src::Tri { phase, tri, freq, .. } => {
+            cells.extend([*phase, *tri]);
+            values.push(freq);
+        }
+        Src::Fm { cph, mph, freq, index, .. } => {
+            cells.extend([*cph, *mph]);
+            values.extend([freq, index]);
+        }
+        Src::Super { phases, ratios, freq, .. } => {
+            cells.extend(phases.iter().chain(ratios));
+            values.push(freq);
+        }
+        Src::Noise { rng, kind } => {
+            match kind {
+                NoiseKind::White => {}
+                NoiseKind::Pink { b } => cells.extend(b),
+                NoiseKind::Brown { last } => cells.push(*last),
+            }
+            registers.push(state(rng));
+        }
+        Src::Dust { rng, y, .. } => {
+            cells.push(*y);
+            registers.push(state(rng));
+        }
+        Src::Mix { inputs, .. } | Src::Mul { inputs, .. } => inputs.iter().for_each(|c| state_of(c, cells, registers)),
+        Src::Chain { src, procs } => {
+            state_of(src, cells, registers);
+            procs.iter().for_each(|p| crate::streaming::proc::inner::state(p, cells, registers));
+        }
+    }
+    values.iter().for_each(|v| crate::streaming::value::inner::state(v, cells, registers));
+}
+/// A mono voice as `StreamGraph` has it. `StreamGraph` itself names the mixer, which is not compared; `fill` and
+/// `glide_pitch` are its own lines, and bend and cutoff are set below its setters, which clamp more.
+pub struct Voice {
+    src: Src,
+    pub pos: usize,
+    pub pitch: f32,
+    pub target: f32,
+    pub glide: f32,
+    pub bend: f32,
+}
+
+impl Voice {
+    pub fn build(node: &Node, sr: u32, n: usize, path: u64) -> Voice {
+        let src = try_src(node, &Ctx::stream(sr, n), path).unwrap();
+        Voice { src, pos: 0, pitch: 1.0, target: 1.0, glide: 1.0, bend: 1.0 }
+    }
+    pub fn fill(&mut self, out: &mut [f32]) {
+        let mut pitch = [0.0; crate::streaming::CHUNK];
+        for chunk in out.chunks_mut(crate::streaming::CHUNK) {
+            let len = chunk.len();
+            for p in pitch[..len].iter_mut() {
+                self.pitch += (self.target - self.pitch) * self.glide;
+                *p = self.pitch * self.bend;
+            }
+            self.src.process(chunk, self.pos, &pitch[..len]);
+            self.pos += len;
+        }
+    }
+    pub fn glide_pitch(&mut self, scale: f32, coeff: f32) {
+        self.target = scale.max(0.0);
+        self.glide = if coeff.is_nan() { 1.0 } else { coeff.clamp(f32::MIN_POSITIVE, 1.0) };
+    }
+    pub fn set_cutoff(&mut self, scale: f32) {
+        self.src.set_cutoff(scale);
+    }
+    /// The cells and the registers of the built nodes, in the order of a walk that meets a node before its chain.
+    pub fn state(&self) -> (Vec<f32>, Vec<u64>) {
+        let (mut cells, mut registers) = (Vec::new(), Vec::new());
+        state_of(&self.src, &mut cells, &mut registers);
+        (cells, registers)
+    }
+}

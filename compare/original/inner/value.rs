@@ -53,3 +53,10 @@ impl Values {
         (dsp::inner::state(rng), [*prev, *next, *phase])
     }
 }
+/// Adds the cells and the registers that a value owns.
+pub(crate) fn state(val: &Val, cells: &mut Vec<f32>, registers: &mut Vec<u64>) {
+    if let Val::Rand { rng, prev, next, phase, .. } = val {
+        cells.extend([*prev, *next, *phase]);
+        registers.push(dsp::inner::state(rng));
+    }
+}

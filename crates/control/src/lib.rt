@@ -3,6 +3,7 @@ ghost use mathlib.Core.Path.{_≡_};
 ghost use Rattle.control.specs.Moves.{fresh, glided, glideOf, pitchMoved, bendMoved, leftFor};
 
 // How long the voice has sounded, in samples; the pitch's multiplier, where it glides to and by which part per sample; the bend.
+#[repr(C)]
 pub struct Controls {
     pub position: u64,
     pub pitch: f32,

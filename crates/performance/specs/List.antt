@@ -1,22 +1,22 @@
 -- A list of calls as it is lent, and what a function that makes them with the player's own calls leaves: what the sample machine gives for the list.
 use mathlib.Core.Path.{_≡_, refl, sym, ap, ap₂, _∙_}
-use mathlib.Core.Bool.{Bool, true, false, cond}
+use mathlib.Core.Bool.{Bool, true, false, cond, _&&_}
 use mathlib.Core.List.{List, [], _∷_, _++_, append-assoc, append-nil}
 use Prim.Native.Nat.{ℕ, zero, suc, _+_, _-_, _≤_, _<_}
 use native.Mathlib.Numerals.{add-one}
 use native.Mathlib.Omega.{arith}
 use native.Mathlib.Decide.{decLe}
-use lib.Dec.{eqb}
+use lib.Dec.{eqb, leb}
 use lib.ListN.{length, getD, set, take, drop, length-set, length-drop, length-append, drop-of-length-le, take-append-drop}
 use lib.Seq.{length-take-le, take-all, take-at, drop-at, drop-drop, take-append-add, drop-append-add, drop-append-le, take-suc-set}
 use lib.Ieee.{Float, nan}
-use borrow.Author.Tests.{eqb-true, eqb-false}
+use borrow.Author.Tests.{eqb-true, eqb-false, leb-true, le-leb, lt-leb}
 use Rattle.tree.specs.Comm.{M, ret, bind, bind-ap, bind-ap-left}
 use Rattle.tree.specs.Block.{tab}
 use Rattle.control.specs.declared.Controls.{Controls}
 use Rattle.control.specs.Moves.{pitchMoved, bendMoved}
 use Rattle.sheet.specs.Checks.{sum}
-use Rattle.sheet.specs.Laws.{sum-suc}
+use Rattle.sheet.specs.Laws.{both, never, sum-suc}
 use Rattle.machine.specs.Machine.{State, state, roomCheck, fillCheck, fillOf, cutoffOf, controlled, Call, fill, pitch, bend, cutoff, call, machine}
 use Rattle.machine.specs.Samples.{samples-length}
 use Rattle.player.specs.Calls.{Fills, Cuts}
@@ -122,6 +122,16 @@ pub record Plays (s : List ℕ) (ks : List Call) (c : Controls) (xs cs : List Fl
   pub samples : ys ≡ machine s ks (state c cs rs zs) .0 .1 ++ drop (length (machine s ks (state c cs rs zs) .0 .1)) xs
   pub left : state r ds ss ws ≡ machine s ks (state c cs rs zs) .1
 
+-- the slices fit, by how long they are: a kind, two numbers, a length and an answer for each call, and out has room for all the lengths
+unfoldable pub fitting : ℕ → ℕ → ℕ → List ℕ → ℕ → ℕ → Bool
+fitting kinds xs gs lens answers out = eqb kinds answers && eqb xs answers && eqb gs answers && eqb (length lens) answers && leb (sum (lengthAt lens) (length lens)) out
+
+-- a list of calls that is made where its slices fit, and otherwise leaves everything as it was
+pub record Performed (fit : Bool) (s : List ℕ) (ks : List Call) (c : Controls) (es : List ℕ) (xs cs : List Float) (rs : List ℕ) (zs : List Float) (made : Bool) (r : Controls) (bs : List ℕ) (ys ds : List Float) (ss : List ℕ) (ws : List Float) : Type 0 where
+  pub made-is : made ≡ fit
+  pub plays : made ≡ true → Plays s ks c xs cs rs zs r bs ys ds ss ws
+  pub kept : made ≡ false → (r ≡ c) × (bs ≡ es) × (ys ≡ xs) × (ds ≡ cs) × (ss ≡ rs) × (ws ≡ zs)
+
 pub record Playing (s : List ℕ) (f : ℕ → Call) (n : ℕ → ℕ) (c : Controls) (xs cs : List Float) (rs : List ℕ) (zs : List Float) (bs : List ℕ) (r : Controls) (ys ds : List Float) (ss : List ℕ) (ws : List Float) (es : List ℕ) (d k : ℕ) : Type 0 where
   pub bound : k ≤ length bs
   pub long : length es ≡ length bs
@@ -200,3 +210,36 @@ sum-le f i (suc j) h = elim (decLe i j) [ yes g ↦ omega (arith, sum-le f i j g
 -- the next call's samples have room
 pub play-room : (n : ℕ → ℕ) (d k m l : ℕ) → d ≤ sum n k → k < m → sum n m ≤ l → d + n k ≤ l
 play-room n d k m l h g r = omega (arith, sum-suc n k, sum-le n (k + 1) m (omega arith))
+
+-- ---- whether the slices fit
+pub fitting-told : (kinds xs gs : ℕ) (lens : List ℕ) (answers out : ℕ) → fitting kinds xs gs lens answers out ≡ true
+    → (kinds ≡ answers) × (xs ≡ answers) × (gs ≡ answers) × (length lens ≡ answers) × (sum (lengthAt lens) answers ≤ out)
+unfolding fitting
+fitting-told kinds xs gs lens answers out e =
+    let p = both _ _ e in
+    let q = both _ _ (p .0) in
+    let t = both _ _ (q .0) in
+    let u = both _ _ (t .0) in
+    let l = eqb-true _ _ (q .1) in
+    (eqb-true _ _ (u .0), eqb-true _ _ (u .1), eqb-true _ _ (t .1), l, rw (← l) (leb-true _ _ (p .1)))
+
+pub fit-none : (f : ℕ → ℕ) (n : ℕ) → sum f 0 + n ≡ n
+unfolding sum
+fit-none f n = let z : sum f 0 ≡ 0 = refl in omega (arith, z)
+
+pub fit-turn : (f : ℕ → ℕ) (k left n : ℕ) → sum f k + left ≡ n → f k ≤ left → sum f (k + 1) + (left - f k) ≡ n
+fit-turn f k left n e h = omega (arith, sum-suc f k)
+
+pub fit-over : (f : ℕ → ℕ) (k m left n : ℕ) → sum f k + left ≡ n → k < m → left < f k → false ≡ leb (sum f m) n
+fit-over f k m left n e h g = sym (lt-leb (sum f m) n (omega (arith, sum-suc f k, sum-le f (k + 1) m (omega arith))))
+
+pub fit-all : (f : ℕ → ℕ) (k m left n : ℕ) → sum f k + left ≡ n → k ≡ m → true ≡ leb (sum f m) n
+fit-all f k m left n e h = sym (le-leb (sum f m) n (rw (← h) (omega arith)))
+
+-- the calls are made, or not
+pub performed : (s : List ℕ) (ks : List Call) (c : Controls) (es : List ℕ) (xs cs : List Float) (rs : List ℕ) (zs : List Float) (r : Controls) (bs : List ℕ) (ys ds : List Float) (ss : List ℕ) (ws : List Float) (fit : Bool)
+    → fit ≡ true → Plays s ks c xs cs rs zs r bs ys ds ss ws → Performed fit s ks c es xs cs rs zs true r bs ys ds ss ws
+performed s ks c es xs cs rs zs r bs ys ds ss ws fit e p = record { made-is = sym e; plays = λ q. p; kept = λ q. never q }
+
+pub not-performed : (s : List ℕ) (ks : List Call) (c : Controls) (es : List ℕ) (xs cs : List Float) (rs : List ℕ) (zs : List Float) (fit : Bool) → fit ≡ false → Performed fit s ks c es xs cs rs zs false c es xs cs rs zs
+not-performed s ks c es xs cs rs zs fit e = record { made-is = sym e; plays = λ q. never (sym q); kept = λ q. (refl, refl, refl, refl, refl, refl) }

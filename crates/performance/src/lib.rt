@@ -1,10 +1,11 @@
 // A performance: a list of calls, made one after another with the player's own calls on the same sheet, controls and lent memory.
 ghost use mathlib.Core.Path.{_≡_};
+ghost use lib.Dec.{leb};
 ghost use Prim.Native.Nat.{_≤_};
 ghost use lib.ListN.{length};
 ghost use Rattle.tree.specs.Block.{tab};
 ghost use Rattle.sheet.specs.Checks.{sum};
-ghost use Rattle.performance.specs.List.{callOf, Called, tookOf, callAt, lengthAt, Plays};
+ghost use Rattle.performance.specs.List.{callOf, Called, tookOf, callAt, lengthAt, fitting, Plays, Performed};
 
 // One call: kind 0 is a fill of out, 1 a pitch move to x by g, 2 a bend move to x, any other a cutoff move to x.
 fn one_call(
@@ -53,9 +54,8 @@ fn took(kind: u8, answer: u8, n: usize) -> usize
     0
 }
 
-// The calls have their kinds, their two numbers and their lengths in slices of their own; each answer is written, and the samples of the accepted
-// fills stand in out, one after another. Out has room for all the lengths.
-pub fn play(
+// The calls of slices that fit, one after another.
+fn perform(
     sheet: &[u8],
     kinds: &[u8],
     xs: &[f32],
@@ -96,4 +96,86 @@ pub fn play(
         k = next;
     }
     c
+}
+
+// Whether n is at least the sum of the lengths. What is left of n is counted, so that no sum overflows.
+fn lengths_fit(lens: &[usize], n: usize) -> bool
+    ensures { λ r. ⌜ r ≡ leb (sum (lengthAt (now (lens .entry))) (length (now (lens .entry)))) n ⌝ }
+{
+    let mut left = n;
+    let mut k: usize = 0;
+    while k < lens.len() {
+        let x = lens[k];
+        if left < x {
+            return false;
+        }
+        left = left - x;
+        k += 1;
+    }
+    true
+}
+
+// Whether the slices fit, by their lengths.
+fn fits(kinds: usize, xs: usize, gs: usize, lens: &[usize], answers: usize, out: usize) -> bool
+    ensures { λ r. ⌜ r ≡ fitting kinds xs gs (now (lens .entry)) answers out ⌝ }
+{
+    (kinds == answers)
+        & (xs == answers)
+        & (gs == answers)
+        & (lens.len() == answers)
+        & lengths_fit(lens, out)
+}
+
+// Whether the calls were made, and the controls after them.
+pub struct Performance {
+    pub made: bool,
+    pub controls: control::Controls,
+}
+
+// The calls have their kinds, their two numbers and their lengths in slices of their own; each answer is written, and the samples of the accepted
+// fills stand in out, one after another. Nothing is written where the slices do not fit.
+pub fn play(
+    sheet: &[u8],
+    kinds: &[u8],
+    xs: &[f32],
+    gs: &[f32],
+    lens: &[usize],
+    first: control::Controls,
+    answers: &mut [u8],
+    out: &mut [f32],
+    cells: &mut [f32],
+    regs: &mut [u64],
+    scr: &mut [f32],
+) -> Performance
+    ensures { λ r. ⌜ Performed (fitting (length (now (kinds .entry))) (length (now (xs .entry))) (length (now (gs .entry))) (now (lens .entry)) (length (now (answers .entry))) (length (now (out .entry)))) (now (sheet .entry)) (tab (length (now (kinds .entry))) (callAt (now (kinds .entry)) (now (xs .entry)) (now (gs .entry)) (now (lens .entry)))) first (now (answers .entry)) (now (out .entry)) (now (cells .entry)) (now (regs .entry)) (now (scr .entry)) (r .made) (r .controls) (now (answers .exit)) (now (out .exit)) (now (cells .exit)) (now (regs .exit)) (now (scr .exit)) ⌝ }
+{
+    if fits(
+        kinds.len(),
+        xs.len(),
+        gs.len(),
+        lens,
+        answers.len(),
+        out.len(),
+    ) {
+        return Performance {
+            made: true,
+            controls: perform(
+                sheet,
+                kinds,
+                xs,
+                gs,
+                lens,
+                first,
+                answers,
+                out,
+                cells,
+                regs,
+                scr,
+            ),
+        };
+    }
+    Performance {
+        made: false,
+        controls: first,
+    }
 }

@@ -16,6 +16,7 @@ ghost use Rattle.player.specs.Calls.{Fills, Cuts, Builds, Made, Prepared
 ghost use mathlib.Core.Bool.{true, false};
 
 // The refusal's number, or 0, and how much memory the sheet needs to be lent: nothing where it is refused.
+#[repr(C)]
 pub struct Needed {
     pub refusal: u8,
     pub cells: u64,
@@ -154,6 +155,7 @@ fn prepare(
 }
 
 // The answer and the controls after a call.
+#[repr(C)]
 pub struct Answer {
     pub answer: u8,
     pub controls: control::Controls,
@@ -301,7 +303,7 @@ fn play(
         }
         return Answer {
             answer: 10,
-            controls: c,
+            controls: c, // a refusal gives them back as they came
         };
     }
     Answer {
