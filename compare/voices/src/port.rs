@@ -24,48 +24,42 @@ struct Needed {
     scratch: u64,
 }
 
-type Cells = *mut f32;
-type Words = *mut u64;
-
 unsafe extern "C" {
     fn player_needs(sheet: *const u8, n: usize) -> Needed;
-    fn player_build(
-        sheet: *const u8,
-        n: usize,
-        c: Controls,
-        cells: Cells,
-        m: usize,
-        regs: Words,
-        r: usize,
-        scr: Cells,
-        s: usize,
-    ) -> Answer;
-    fn player_fill(
-        sheet: *const u8,
-        n: usize,
-        c: Controls,
-        out: Cells,
-        l: usize,
-        cells: Cells,
-        m: usize,
-        regs: Words,
-        r: usize,
-        scr: Cells,
-        s: usize,
-    ) -> Answer;
     fn player_pitch(c: Controls, scale: f32, coefficient: f32) -> Controls;
     fn player_bend(c: Controls, x: f32) -> Controls;
-    fn player_cutoff(
-        sheet: *const u8,
-        n: usize,
-        x: f32,
-        cells: Cells,
-        m: usize,
-        regs: Words,
-        r: usize,
-        scr: Cells,
-        s: usize,
-    ) -> u8;
+}
+
+/// Declares calls that are lent a voice's memory, each with the arguments that stand between the sheet and the cells,
+/// and makes each a function of a voice.
+macro_rules! lent_calls {
+    ($($call:ident($($more:ident: $kind:ty),*) -> $answer:ty;)*) => {
+        unsafe extern "C" {
+            $(fn $call(
+                sheet: *const u8, n: usize, $($more: $kind,)*
+                cells: *mut f32, m: usize, registers: *mut u64, r: usize, scratch: *mut f32, s: usize,
+            ) -> $answer;)*
+        }
+        impl Voice {
+            $(fn $call(&mut self, $($more: $kind),*) -> $answer {
+                let (sheet, cells, registers, scratch) =
+                    (&self.sheet, &mut self.cells, &mut self.registers, &mut self.scratch);
+                unsafe {
+                    $call(
+                        sheet.as_ptr(), sheet.len(), $($more,)*
+                        cells.as_mut_ptr(), cells.len(), registers.as_mut_ptr(), registers.len(),
+                        scratch.as_mut_ptr(), scratch.len(),
+                    )
+                }
+            })*
+        }
+    };
+}
+
+lent_calls! {
+    player_build(c: Controls) -> Answer;
+    player_fill(c: Controls, out: *mut f32, l: usize) -> Answer;
+    player_cutoff(x: f32) -> u8;
 }
 
 /// What is lent beyond the needs, and the numbers that stand there: no call may change them.
@@ -81,30 +75,24 @@ pub struct Voice {
     scratch: Vec<f32>,
 }
 
+/// The cells, registers and scratch that a sheet needs.
+pub fn needed(sheet: &[u8]) -> Result<(usize, usize, usize), String> {
+    let needed = unsafe { player_needs(sheet.as_ptr(), sheet.len()) };
+    match needed.refusal {
+        0 => Ok((needed.cells as usize, needed.registers as usize, needed.scratch as usize)),
+        refusal => Err(format!("needs answers {refusal}")),
+    }
+}
+
 impl Voice {
     pub fn build(sheet: &[u8]) -> Result<Voice, String> {
-        let needed = unsafe { player_needs(sheet.as_ptr(), sheet.len()) };
-        if needed.refusal != 0 {
-            return Err(format!("needs answers {}", needed.refusal));
-        }
+        let (m, r, s) = needed(sheet)?;
         let controls = Controls { position: 77, pitch: 0.5, target: 3.0, glide: 0.25, bend: -1.0 };
-        let cells = vec![CELL; needed.cells as usize + BEYOND];
-        let registers = vec![WORD; needed.registers as usize + BEYOND];
-        let scratch = vec![CELL; needed.scratch as usize + BEYOND];
+        let cells = vec![CELL; m + BEYOND];
+        let registers = vec![WORD; r + BEYOND];
+        let scratch = vec![CELL; s + BEYOND];
         let mut v = Voice { sheet: sheet.to_vec(), controls, cells, registers, scratch };
-        let a = unsafe {
-            player_build(
-                v.sheet.as_ptr(),
-                v.sheet.len(),
-                v.controls,
-                v.cells.as_mut_ptr(),
-                v.cells.len(),
-                v.registers.as_mut_ptr(),
-                v.registers.len(),
-                v.scratch.as_mut_ptr(),
-                v.scratch.len(),
-            )
-        };
+        let a = v.player_build(controls);
         v.took(a, "build")?;
         Ok(v)
     }
@@ -118,21 +106,7 @@ impl Voice {
     }
 
     pub fn fill(&mut self, out: &mut [f32]) -> Result<(), String> {
-        let a = unsafe {
-            player_fill(
-                self.sheet.as_ptr(),
-                self.sheet.len(),
-                self.controls,
-                out.as_mut_ptr(),
-                out.len(),
-                self.cells.as_mut_ptr(),
-                self.cells.len(),
-                self.registers.as_mut_ptr(),
-                self.registers.len(),
-                self.scratch.as_mut_ptr(),
-                self.scratch.len(),
-            )
-        };
+        let a = self.player_fill(self.controls, out.as_mut_ptr(), out.len());
         self.took(a, "fill")
     }
 
@@ -145,23 +119,9 @@ impl Voice {
     }
 
     pub fn cutoff(&mut self, x: f32) -> Result<(), String> {
-        let answer = unsafe {
-            player_cutoff(
-                self.sheet.as_ptr(),
-                self.sheet.len(),
-                x,
-                self.cells.as_mut_ptr(),
-                self.cells.len(),
-                self.registers.as_mut_ptr(),
-                self.registers.len(),
-                self.scratch.as_mut_ptr(),
-                self.scratch.len(),
-            )
-        };
-        if answer == 0 {
-            Ok(())
-        } else {
-            Err(format!("cutoff answers {answer}"))
+        match self.player_cutoff(x) {
+            0 => Ok(()),
+            answer => Err(format!("cutoff answers {answer}")),
         }
     }
 

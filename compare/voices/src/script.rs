@@ -20,7 +20,7 @@ pub struct Script {
 }
 
 /// NaNs count as one.
-fn bits(x: f32) -> u32 {
+pub fn bits(x: f32) -> u32 {
     if x.is_nan() {
         0x7fc0_0000
     } else {
@@ -28,7 +28,7 @@ fn bits(x: f32) -> u32 {
     }
 }
 
-fn same(what: &str, rust: &[f32], ours: &[f32]) -> Result<(), String> {
+pub fn same(what: &str, rust: &[f32], ours: &[f32]) -> Result<(), String> {
     if rust.len() != ours.len() {
         return Err(format!("{what}: {} numbers in the Rust, {} here", rust.len(), ours.len()));
     }

@@ -3,20 +3,16 @@ use mathlib.Core.Path.{_≡_, sym, ap, _∙_}
 use mathlib.Core.List.{List}
 use Prim.Native.Nat.{ℕ, zero, suc, _+_, _*_, _<_}
 use native.Mathlib.Numerals.{add-one}
-use lib.ListN.{length, getD, set}
+use lib.ListN.{length, set}
 use lib.IntN.{pos}
 use lib.Ieee.{Float, binary32, ofInt}
 use Rattle.float.specs.Single.{_⊕_, _⊗_, _⊘_, one}
 use Rattle.float.specs.Single as single
-use Rattle.block.specs.Iterate.{at}
+use Rattle.block.specs.Iterate.{at, word}
 use Rattle.dsl.specs.declared.SuperWave.{SuperWave}
 use Rattle.source.specs.Oscillators.{hertz, superVoice}
 use Rattle.proc.specs.declared.Mode.{Mode}
 use Rattle.proc.specs.Effects.{blend, modeOf, nextPlace, combOf, allpassOf, reverbMix}
-
--- register k
-abbrev pub word : List ℕ → ℕ → ℕ
-word rs k = getD rs k 0
 
 -- the first n units of a bank, one after the other
 unfoldable pub units : {S : Type 0} → (S → ℕ → S) → S → ℕ → S

@@ -1,6 +1,6 @@
 -- A bank of units over a few samples: unit after unit, each over all the samples, gives what sample after sample gives, where a unit
 -- commutes with those before it. An item is a sample with what the units have made of it so far.
-use mathlib.Core.Path.{_≡_, refl, sym, ap, _∙_}
+use mathlib.Core.Path.{_≡_, refl}
 use mathlib.Core.List.{List}
 use Prim.Native.Nat.{ℕ, zero, suc, _+_, _<_}
 use native.Mathlib.Numerals.{add-one}

@@ -1,20 +1,20 @@
 -- Reverb's cells in two parts, the lines ls and the combs' stores ss: a comb or an allpass on the parts is one on the cells.
-use mathlib.Core.Path.{_≡_, refl, sym, ap, _∙_}
+use mathlib.Core.Path.{_≡_, sym, ap, _∙_}
 use mathlib.Core.List.{List, [], _∷_, _++_, append-nil}
 use Prim.Native.Nat.{ℕ, zero, suc, _+_, _-_, _≤_, _<_}
 use native.Mathlib.Nat.{le-refl}
 use native.Mathlib.Numerals.{add-one}
 use native.Mathlib.Omega.{arith}
 use native.Mathlib.Decide.{ℕ-discrete}
-use lib.ListN.{length, getD, set, take, drop, length-set, length-drop, length-append, take-append-drop, drop-of-length-le, List·getD-append}
+use lib.ListN.{length, set, take, drop, length-set, length-drop, length-append, take-append-drop, drop-of-length-le, List·getD-append}
 use lib.Seq.{getD-set-same, getD-set-other, getD-append-add, set-append-left, take-all, take-at, drop-at}
 use lib.Ieee.{Float, nan}
 use Rattle.float.specs.Single.{_⊕_}
-use Rattle.block.specs.Iterate.{at}
+use Rattle.block.specs.Iterate.{at, word}
 use Rattle.proc.specs.declared.CombOut.{CombOut}
 use Rattle.proc.specs.declared.AllpassOut.{AllpassOut}
 use Rattle.proc.specs.Effects.{nextPlace, combOf, allpassOf}
-use Rattle.bank_block.specs.Banks.{word, lineFrom, storeOf, combAt, allpassAt, Placed}
+use Rattle.bank_block.specs.Banks.{lineFrom, storeOf, combAt, allpassAt, Placed}
 
 -- ---- where the lines lie
 line-le : (lens : List ℕ) (k m : ℕ) → lineFrom lens k ≤ lineFrom lens (k + m)

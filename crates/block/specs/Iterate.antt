@@ -1,6 +1,6 @@
 -- A block of samples: a step taken once for each, in order, the k-th with its own inputs. A step takes the state and gives a sample and the next state.
 use mathlib.Core.Path.{_≡_, refl, sym, ap, _∙_}
-use mathlib.Core.List.{List, [], _∷_, _++_, append-assoc, append-nil}
+use mathlib.Core.List.{List, [], _∷_, _++_, map, append-assoc, append-nil}
 use Prim.Native.Nat.{ℕ, zero, suc, _+_, _<_}
 use native.Mathlib.Nat.{add-zero, add-suc}
 use native.Mathlib.Numerals.{add-one}
@@ -8,11 +8,16 @@ use native.Mathlib.Omega.{arith}
 use lib.ListN.{length, getD}
 use lib.Ieee.{Float, nan}
 use Rattle.tree.specs.Comm.{M, ret, bind, Comm, comm-sym, comm-then, comm-ret, comm-bind, blk, later}
-use Rattle.tree.specs.Block.{tab, length-tab, getD-tab}
+use Rattle.tree.specs.Block.{tab, length-tab, getD-tab, tab-eq}
+use Rattle.tree.specs.Lists.{tab-same, map-const}
 
 -- sample k of a buffer
 abbrev pub at : List Float → ℕ → Float
 at xs k = getD xs k nan
+
+-- word k of a list
+abbrev pub word : List ℕ → ℕ → ℕ
+word ws k = getD ws k 0
 
 module _ {S A : Type 0} where
   -- the state after n samples
@@ -78,13 +83,20 @@ module _ {S A : Type 0} where
   after-same f g s (suc n) e = ap (λ (u : S). f n u .1) (after-same f g s n (λ k h. e k (omega arith))) ∙ ap (λ (p : A × S). p .1) (e n (omega arith) (after g s n))
 
   pub given-same : (f g : ℕ → S → A × S) (s : S) (n : ℕ) → ((k : ℕ) → k < n → (u : S) → f k u ≡ g k u) → given f s n ≡ given g s n
-  unfolding given tab
-  given-same f g s zero e = refl
-  given-same f g s (suc n) e =
-      (λ i. given-same f g s n (λ k h. e k (omega arith)) i ++ (one i ∷ []))
-    where
-      one : sampleAt f s n ≡ sampleAt g s n
-      one = ap (λ (u : S). f n u .0) (after-same f g s n (λ k h. e k (omega arith))) ∙ ap (λ (p : A × S). p .0) (e n (omega arith) (after g s n))
+  unfolding given
+  given-same f g s n e = tab-eq n (sampleAt f s) (sampleAt g s)
+      (λ k h. ap (λ (u : S). f k u .0) (after-same f g s k (λ j l. e j (omega arith))) ∙ ap (λ (p : A × S). p .0) (e k h (after g s k)))
+
+  -- ---- steps that all give y and leave the state as it is
+  pub after-still : (f : ℕ → S → A × S) (y : A) → ((k : ℕ) (s : S) → f k s ≡ (y, s)) → (s : S) (n : ℕ) → after f s n ≡ s
+  unfolding after
+  after-still f y e s zero = refl
+  after-still f y e s (suc n) = ap (λ (p : A × S). p .1) (e n (after f s n)) ∙ after-still f y e s n
+
+  pub given-still : (f : ℕ → S → A × S) (y : A) → ((k : ℕ) (s : S) → f k s ≡ (y, s)) → (s : S) (xs : List A) → given f s (length xs) ≡ map (λ x. y) xs
+  unfolding given
+  given-still f y e s xs =
+      tab-eq (length xs) (sampleAt f s) (λ k. y) (λ k h. ap (λ (p : A × S). p .0) (e k (after f s k))) ∙ tab-same (length xs) y ∙ sym (map-const y xs)
 
   -- ---- an action that gives the first n samples
   abbrev pub samples : (ℕ → S → A × S) → ℕ → M S (List A)

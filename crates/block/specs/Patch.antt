@@ -7,11 +7,11 @@ use native.Mathlib.Omega.{arith}
 use native.Mathlib.Decide.{ℕ-discrete}
 use lib.ListN.{length, getD, length-map}
 use Rattle.tree.specs.Comm.{M, ret, bind, blk, blk-keeps, later}
-use Rattle.tree.specs.Tree.{Tree, nil, node, In, here, kid, rest, Apart, Kind, leaf, Mode, piping, Rack, Split, Made, made-bind, made-unit, made-mono, made-keeps, vals, vals-made, run, run-made, brun, brun-length, brun-keeps, bstep, bone, disjoint-comm, block}
+use Rattle.tree.specs.Tree.{Tree, nil, node, In, here, kid, rest, Apart, Kind, leaf, Mode, piping, Rack, Split, Made, made-bind, made-unit, made-mono, made-keeps, vals, vals-made, run, run-made, brun, brun-keeps, bstep, bone, disjoint-comm, block}
 use Rattle.tree.specs.Forest.{Forest, whole, whole-nil, whole-node, whole-apart, whole-all, not-child, root, root-apart, root-all}
 use Rattle.tree.specs.Flat.{Layout, Rows, Flat, Fits, Fills, own, own-fills, put, put-own, put-again, put-lengths, own-put-same, own-put-other, lift, lift-comm}
 use Rattle.tree.specs.Lists.{getD-const}
-use Rattle.block.specs.Iterate.{given, after, samples, samples-same, samples-interchange, given-length, part-while, after-keeps, blk-is}
+use Rattle.block.specs.Iterate.{given, after, samples, samples-same, samples-interchange, part-while, after-keeps, blk-is}
 
 -- what is fixed between two moves
 pub record Patch (T C R A : Type 0) : Type 0 where
@@ -126,10 +126,6 @@ module _ {T C R A : Type 0} (P : Patch T C R A) where
     pub each : (j : ℕ) → j < P .count → G j (own (P .layout) j s)
 
   -- ---- lengths
-  pub played-length : (j : ℕ) (t : T) (xs : List A) (bufs : List (List A)) (s : Flat C R) → length (played j t xs bufs s .0) ≡ length xs
-  unfolding played
-  played-length j t xs bufs s = given-length (steps j t bufs xs) (own (P .layout) j s) (length xs)
-
   pub played-long : (j : ℕ) (t : T) (xs : List A) (bufs : List (List A)) (s : Flat C R) → Long s (played j t xs bufs s .1)
   unfolding played
   played-long j t xs bufs s = long-put (P .layout) j (after (steps j t bufs xs) (own (P .layout) j s) (length xs)) s
@@ -266,36 +262,13 @@ module _ {T C R A : Type 0} (P : Patch T C R A) where
         (ap from e ∙ from-value v dv lv fv ∙ ap (node v nil) (ap from n ∙ from-value w dw lw fw ∙ ap (node w nil) (from-none (P .next w) nw)))
         t xs s (hv, tt, (hw, tt, tt)) hi
 
-    -- ---- lengths
     source-apart : (i : ℕ) → Apart (node i (from (P .first i)) nil)
     source-apart i = (from-below i, in-none, (λ j p q. in-none q), from-apart (P .first i), tt)
 
-    pub source-length : (i : ℕ) (t : T) (xs : List A) (s : Flat C R) → length (source i t xs s .0) ≡ length xs
-    unfolding source brun bstep
-    source-length i t xs s = brun-length rack split (node i (from (P .first i)) nil) (source-apart i) piping t xs s
-
-    pub along-length : (i : ℕ) (m : Mode A) (t : T) (xs : List A) (s : Flat C R) → length (along i m t xs s .0) ≡ length xs
-    unfolding along
-    along-length i m t xs s = brun-length rack split (from i) (from-apart i) m t xs s
-
-    unit-long : (s : Flat C R) (j : ℕ) (t : T) (vs : List A) (x : A) (u : Flat C R) → Long s u → Long s (rack .unit j t vs x u .1)
-    unit-long s j t vs x u l = long-then l (long-put (P .layout) j (P .unit j t vs x (own (P .layout) j u) .1) u)
-
-    pub source-long : (i : ℕ) (t : T) (xs : List A) (s : Flat C R) → Long s (source i t xs s .1)
-    unfolding source brun bstep
-    source-long i t xs s = brun-keeps rack split (Long s) (node i (from (P .first i)) nil) (source-apart i) (λ j u vs x w p. unit-long s j u vs x w) piping t xs s (long-same s)
-
-    pub along-long : (i : ℕ) (m : Mode A) (t : T) (xs : List A) (s : Flat C R) → Long s (along i m t xs s .1)
-    unfolding along
-    along-long i m t xs s = brun-keeps rack split (Long s) (from i) (from-apart i) (λ j u vs x w p. unit-long s j u vs x w) m t xs s (long-same s)
-
     -- the records that run are of the patch
-    in-from : (i : ℕ) → (i ≢ 0 → i < P .count) → (j : ℕ) → In j (from i) → j < P .count
-    in-from i h j p = whole-all (P .first) (P .next) (λ k. k < P .count) (λ k l. ok .first-in k) (λ k l. ok .next-in k) (P .count) i h p
-
     in-source : (i : ℕ) → i < P .count → (j : ℕ) → In j (node i (from (P .first i)) nil) → j < P .count
     in-source i h j here = h
-    in-source i h j (kid p) = in-from (P .first i) (ok .first-in i) j p
+    in-source i h j (kid p) = whole-all (P .first) (P .next) (λ k. k < P .count) (λ k l. ok .first-in k) (λ k l. ok .next-in k) (P .count) (P .first i) (ok .first-in i) p
 
     -- ---- what each unit keeps of what it owns
     module _ (G : ℕ → Flat C R → Type 0)
@@ -345,8 +318,3 @@ module _ {T C R A : Type 0} (P : Patch T C R A) where
       unfolding source brun bstep
       source-all i h t xs s a = brun-keeps rack split (All G) (node i (from (P .first i)) nil) (source-apart i)
           (λ j u vs x w p. unit-all j u vs x w (in-source i h j p)) piping t xs s a
-
-      pub along-all : (i : ℕ) → (i ≢ 0 → i < P .count) → (m : Mode A) (t : T) (xs : List A) (s : Flat C R) → All G s → All G (along i m t xs s .1)
-      unfolding along
-      along-all i h m t xs s a = brun-keeps rack split (All G) (from i) (from-apart i)
-          (λ j u vs x w p. unit-all j u vs x w (in-from i h j p)) m t xs s a

@@ -1,13 +1,13 @@
-// The values of `value_block`, and Arp, which reads its steps from a sheet, of `value_unit`.
+// A constant, the values of `value_block`, and Arp, which reads its steps from a sheet, of `value_unit`.
 ghost use mathlib.Core.Path.{_≡_};
 ghost use Prim.Native.Nat.{_+_, _^_, _≤_, _<_};
-ghost use mathlib.Core.List.{[]};
+ghost use mathlib.Core.List.{[], map};
 ghost use lib.ListN.{length};
 ghost use Rattle.block.specs.Iterate.{given};
 ghost use Rattle.dsl.specs.Options.{curveOf, shapeOf};
-ghost use Rattle.value_block.specs.Steps.{constantStep, slideStep, lfoStep, envModStep, randStep};
+ghost use Rattle.value_block.specs.Steps.{slideStep, lfoStep, envModStep, randStep};
 ghost use Rattle.sheet.specs.Record.{next};
-ghost use Rattle.sheet.specs.Links.{Checked};
+ghost use Rattle.sheet.specs.Links.{Rows, Checked};
 ghost use Rattle.layout.specs.Tables.{Table, Passed};
 ghost use Rattle.unit.specs.Unit.{kindUnit};
 ghost use Rattle.unit.specs.Block.{steps, Lent};
@@ -15,9 +15,9 @@ ghost use Rattle.block_bench.specs.State.{randOf, playing};
 
 #[no_mangle]
 pub extern "C" fn block_constant(out: &mut [f32], x: f32)
-    ensures { λ v. ⌜ now (out .exit) ≡ given (constantStep x) tt (length (now (out .entry))) ⌝ }
+    ensures { λ v. ⌜ now (out .exit) ≡ map (λ y. x) (now (out .entry)) ⌝ }
 {
-    value_block::constant_block(out, x);
+    block::fill_block(out, x);
 }
 
 #[no_mangle]
@@ -103,7 +103,7 @@ pub extern "C" fn block_check(
     first: &mut [usize],
     next: &mut [usize],
 ) -> u8
-    requires { ⌜ (256 ≤ length (now kinds)) × (256 ≤ length (now first)) × (256 ≤ length (now next)) ⌝ }
+    requires { ⌜ Rows (now sheet) (length (now kinds)) × (length (now kinds) ≤ length (now first)) × (length (now kinds) ≤ length (now next)) ⌝ }
     ensures { λ r. ⌜ Checked (now (sheet .entry)) (now (kinds .exit)) (now (first .exit)) (now (next .exit)) r ⌝ }
 {
     sheet::check(sheet, kinds, first, next)

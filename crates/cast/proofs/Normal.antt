@@ -3,27 +3,23 @@ use mathlib.Core.Path.{_≡_, refl, sym, ap, _∙_, subst}
 use mathlib.Core.Logic.{_⊎_, inl, inr}
 use mathlib.Core.Bool.{Bool, true, false, not, _&&_, cond}
 use Prim.Native.Nat.{ℕ, zero, suc, _+_, _-_, _*_, _/_, _%_, _^_, _≤_, _<_, compare, Ordering, Ordering·lt, Ordering·eq, Ordering·gt}
-use native.Mathlib.Nat.{le-trans, le-of-eq, le-of-lt, lt-of-lt-of-le, lt-of-le-of-lt, lt-irrefl, mul-one, one-mul, mul-assoc, mul-right-comm, mul-le-mul-right, mul-lt-mul-of-pos-right, lt-of-mul-lt-mul-right, mod-lt, mod-eq-of-lt, div-add-mod', add-mul, div-lt-iff-lt-mul}
+use native.Mathlib.Nat.{le-of-eq, lt-of-le-of-lt, mul-assoc, mul-right-comm, mul-le-mul-right, mul-lt-mul-of-pos-right, lt-of-mul-lt-mul-right, mod-lt, mod-eq-of-lt, div-add-mod', add-mul, div-lt-iff-lt-mul}
 use native.Mathlib.Omega.{arith}
-use lib.IntN.{ℤ, pos, negsuc}
-use lib.Dec.{T, leb, ltb, eqb, isLe, isEq, leb→le, nleb→lt, eqb→eq, ltb→lt, lit≤, lit<}
-use lib.Pow.{pow-add, pow-pos, pow-mono, pow-lt, shl-lt, split}
+use lib.IntN.{ℤ, pos}
+use lib.Dec.{T, leb, ltb, eqb, isLe, isEq, leb→le, nleb→lt, eqb→eq, ltb→lt, lit<}
+use lib.Pow.{pow-add, pow-pos, pow-lt, split}
 use lib.Ieee.{Float, nan, inf, fin, Format, binary32, binary64, low, hid, ones, top, up, down, nearest, odd, units, round, neg, lt, fits, isNan, nanBits, ofFields, ofBits, toBits}
-use lib.Ieee.Fits.{down-pos, round-fits, fits-widens, inf-fits, neg-fits, and-i}
+use lib.Ieee.Fits.{round-fits, fits-widens, inf-fits, neg-fits, and-i}
 use lib.Ieee.Bits.{ofBits-fits, nanBits-is}
 use lib.Ieee.Exact.{HasValue, units-val}
 use lib.Ieee.Nearest.{closest}
-use Rattle.ieee.proofs.Tests.{null, two-to, yes, cond-yes, cond-no}
-use Rattle.ieee.proofs.Value.{lt-values, revalue, same-value, two-to-value}
+use Rattle.ieee.proofs.Tests.{null, yes, no}
+use Rattle.ieee.proofs.Value.{revalue, same-value}
 use Rattle.ieee.proofs.Build.{pw, Kept, build, units-fits}
 use Rattle.ieee.proofs.Whole.{closest-past}
-use Rattle.ieee.proofs.Read.{Seen, seen, above-neg, above-no-nan, nothing-below}
+use Rattle.ieee.proofs.Read.{Seen, seen, level, above-neg, above-no-nan, nothing-below}
 use Rattle.cast.specs.Narrow.{narrowOf}
 use Rattle.cast.proofs.Narrow.{Rounds, large, neg-narrow}
-
--- 2 ^ -126
-abbrev pub tiny : Float
-tiny = fin false 1 (negsuc 125)
 
 -- ---- n / 2 ^ 29 to the nearest, by a sum
 pub by-sum : (n : ℕ) → (n + (268435455 + n / 2 ^ 29 % 2)) / 2 ^ 29 ≡ closest n (2 ^ 29)
@@ -44,50 +40,23 @@ by-sum n = go (compare (n % 2 ^ 29 * 2) (2 ^ 29)) (leb→le (n % 2 ^ 29 * 2) (2 
     go Ordering·eq a b c d = tie n (c tt)
     go Ordering·gt a b c d = above n (b tt)
 
--- ---- where y lies, by its exponent's field
-pow-lt-back : (a b : ℕ) → 2 ^ a < 2 ^ b → a < b
-pow-lt-back a b h = go (λ (g : b ≤ a). lt-irrefl (2 ^ a) (lt-of-lt-of-le h (pow-mono g)))
+-- ---- y by its exponent's field
+by-field : (y : Float) (e t : ℕ) → 896 < e → e < 1150 → Seen binary64 y e t → (j : ℕ) × (e ≡ suc j) × (896 ≤ j) × (j ≤ 1148)
+by-field y e t a b (inl v) = absurd (none e a (v .0))
   where
-    go : (b ≤ a → ⊥) → a < b
-    go n = omega arith
-
-lead : (t : ℕ) → t < 2 ^ 52 → 2 ^ 52 + t < 2 ^ 53
-lead t h = omega arith
-
-lead-ge : (t : ℕ) → 2 ^ 52 ≤ 2 ^ 52 + t
-lead-ge t = omega arith
-
--- 2 ^ -126 < y: the field is 897 at least
-low-field : (y : Float) (e t : ℕ) → t < 2 ^ 52 → T (lt tiny y) → T (lt y (two-to 127)) → Seen binary64 y e t → (j : ℕ) × (e ≡ suc j) × (896 ≤ j) × (j ≤ 1148) × HasValue y false ((2 ^ 52 + t) * 2 ^ j) (2 ^ 1074)
-low-field y e t h a b (inl v) =
-    absurd
-    (lt-irrefl (2 ^ 1074)
-    (lt-of-lt-of-le
-    (subst (λ (z : ℕ). z < t * 2 ^ 0 * 2 ^ 126) (one-mul (2 ^ 1074)) (lt-values binary64 tiny y 1 (2 ^ 126) (t * 2 ^ 0) (2 ^ 1074) (pow-pos 126) (pow-pos 1074) (refl, refl) (v .1) .0 a))
-    (le-trans (mul-le-mul-right (2 ^ 126) (subst (λ (z : ℕ). z ≤ 2 ^ 52) (sym (mul-one t)) (le-of-lt h))) (le-trans (le-of-eq (pw 52 126 178 refl)) (pow-mono {i = 178} {j = 1074} (lit≤ tt))))))
-low-field y e t h a b (inr (inl v)) =
-    let j = v .0 in
-    let m = 2 ^ 52 + t in
-    let x : 1 * 2 ^ 1074 < m * 2 ^ j * 2 ^ 126 = lt-values binary64 tiny y 1 (2 ^ 126) (m * 2 ^ j) (2 ^ 1074) (pow-pos 126) (pow-pos 1074) (refl, refl) (v .3) .0 a in
-    let z : m * 2 ^ j * 1 < 2 ^ 127 * 2 ^ 1074 = lt-values binary64 y (two-to 127) (m * 2 ^ j) (2 ^ 1074) (2 ^ 127) 1 (pow-pos 1074) (native.Mathlib.Nat.zero-lt-suc 0) (v .3) (two-to-value 127) .0 b in
-    let lo : 1074 < 53 + j + 126 =
-    pow-lt-back 1074 (53 + j + 126)
-    (lt-of-lt-of-le (subst (λ (k : ℕ). k < m * 2 ^ j * 2 ^ 126) (one-mul (2 ^ 1074)) x)
-    (le-trans (mul-le-mul-right (2 ^ 126) (le-of-lt (shl-lt 53 j (lead t h)))) (le-of-eq (sym (pow-add 2 (53 + j) 126))))) in
-    let hi : 52 + j < 1201 =
-    pow-lt-back (52 + j) 1201
-    (lt-of-le-of-lt (le-trans (le-of-eq (pow-add 2 52 j)) (mul-le-mul-right (2 ^ j) (lead-ge t))) (lt-of-lt-of-le (subst (λ (k : ℕ). k < 2 ^ 127 * 2 ^ 1074) (mul-one (m * 2 ^ j)) z) (le-of-eq (pw 127 1074 1201 refl)))) in
-    (j, v .2, from j lo, to j hi, v .3)
+    none : (e : ℕ) → 896 < e → e ≡ 0 → ⊥
+    none e h z = omega arith
+by-field y e t a b (inr (inl v)) = (v .0, v .2, from e (v .0) a (v .2), to e (v .0) b (v .2))
   where
-    from : (j : ℕ) → 1074 < 53 + j + 126 → 896 ≤ j
-    from j h = omega arith
+    from : (e j : ℕ) → 896 < e → e ≡ suc j → 896 ≤ j
+    from e j h z = omega arith
 
-    to : (j : ℕ) → 52 + j < 1201 → j ≤ 1148
-    to j h = omega arith
-low-field y e t h a b (inr (inr v)) = absurd (none (subst (λ (z : Float). T (lt z (two-to 127))) (v .1) b))
+    to : (e j : ℕ) → e < 1150 → e ≡ suc j → j ≤ 1148
+    to e j h z = omega arith
+by-field y e t a b (inr (inr v)) = absurd (none e b (v .0))
   where
-    none : T (lt (inf false) (two-to 127)) → ⊥
-    none h = unfold lt in h
+    none : (e : ℕ) → e < 1150 → e ≡ 2047 → ⊥
+    none e h z = omega arith
 
 -- ---- above zero
 -- the pattern is e * 2 ^ 52 + t, and the digits t are rounded with the field above them
@@ -112,7 +81,7 @@ with-lead t = ap (λ (z : ℕ). closest z (2 ^ 29)) (swap t) ∙ closest-past t 
     back : (c : ℕ) → c + 4194304 * 2 ≡ 8388608 + c
     back c = omega arith
 
-pub kept : (y : Float) → T (fits binary64 y) → T (lt null y) → T (lt tiny y) → T (lt y (two-to 127))
+pub kept : (y : Float) → T (fits binary64 y) → T (lt null y) → 896 < toBits binary64 y / 2 ^ 52 → toBits binary64 y / 2 ^ 52 < 1150
     → (ofBits binary64 (closest (toBits binary64 y) (2 ^ 29) * 2 ^ 29) ≡ narrowOf y) × (closest (toBits binary64 y) (2 ^ 29) * 2 ^ 29 < 2 ^ 63) × T (not (isNan (narrowOf y)))
 kept y F P a b =
     let B = toBits binary64 y in
@@ -120,7 +89,7 @@ kept y F P a b =
     let t = B % 2 ^ 52 in
     let h : t < 2 ^ 52 = mod-lt B (pow-pos 52) in
     let s = seen binary64 y F P in
-    let g = low-field y e t h a b (s .1) in
+    let g = by-field y e t a b (s .1) in
     let j = g .0 in
     let Q = closest (2 ^ 52 + t) (2 ^ 29) in
     let r : Rounds y (2 ^ 52 + t) 29 (e - 897) = large y e t h (from e j (g .1) (g .2)) (to e j (g .1) (g .3)) (s .1) in
@@ -262,13 +231,13 @@ whole-cut b h = mod-eq-of-lt (lt-of-le-of-lt (less (b + (268435455 + b / 5368709
     less : (n : ℕ) → n / 536870912 * 536870912 ≤ n
     less n = omega arith
 
-neg-number : (x : Float) → T (not (isNan x)) → T (not (isNan (neg x)))
+pub neg-number : (x : Float) → T (not (isNan x)) → T (not (isNan (neg x)))
 unfolding isNan neg
 neg-number nan h = h
 neg-number (inf s) h = tt
 neg-number (fin s m e) h = tt
 
-neg-neg : (x : Float) → neg (neg x) ≡ x
+pub neg-neg : (x : Float) → neg (neg x) ≡ x
 unfolding neg
 neg-neg nan = refl
 neg-neg (inf true) = refl
@@ -287,10 +256,15 @@ bits-neg (fin true m e) h = go _ _
     go : (a b : ℕ) → 2 ^ 63 + a + b ≡ 2 ^ 63 + (0 + a + b)
     go a b = omega arith
 
-above : (x : Float) → T (fits binary64 x) → T (lt null x) → T (lt tiny x) → T (lt x (two-to 127)) → Normal x
+-- the field of a pattern b below 2 ^ 63 and of 2 ^ 63 + b
+abbrev field : ℕ → ℕ
+field b = b / 2 ^ 52 % 2048
+
+above : (x : Float) → T (fits binary64 x) → T (lt null x) → 896 < field (toBits binary64 x) → field (toBits binary64 x) < 1150 → Normal x
 above x F P a b =
-    let k = kept x F P a b in
     let s = seen binary64 x F P .0 in
+    let e = whole (toBits binary64 x) s in
+    let k = kept x F P (subst (λ (z : ℕ). 896 < z) e a) (subst (λ (z : ℕ). z < 1150) e b) in
     let h = room (toBits binary64 x) s in
     record {
       number = above-no-nan x P;
@@ -299,16 +273,20 @@ above x F P a b =
       finite = k .2;
     }
   where
+    whole : (b : ℕ) → b < 2 ^ 63 → b / 2 ^ 52 % 2048 ≡ b / 2 ^ 52
+    whole b h = omega arith
+
     room : (b : ℕ) → b < 2 ^ 63 → b + (268435455 + b / 536870912 % 2) < 2 ^ 64
     room b h = omega arith
 
-below : (x : Float) → T (fits binary64 x) → T (lt x null) → T (lt tiny (neg x)) → T (lt (neg x) (two-to 127)) → Normal x
+below : (x : Float) → T (fits binary64 x) → T (lt x null) → 896 < field (toBits binary64 x) → field (toBits binary64 x) < 1150 → Normal x
 below x F N a b =
     let y = neg x in
     let P = above-neg x N in
-    let k = kept y (neg-fits binary64 x F) P a b in
     let c = toBits binary64 y in
     let e : toBits binary64 x ≡ 2 ^ 63 + c = bits-neg x N in
+    let f : field (toBits binary64 x) ≡ c / 2 ^ 52 = ap field e ∙ whole c (seen binary64 y (neg-fits binary64 x F) P .0) in
+    let k = kept y (neg-fits binary64 x F) P (subst (λ (z : ℕ). 896 < z) f a) (subst (λ (z : ℕ). z < 1150) f b) in
     let h : toBits binary64 x + (268435455 + toBits binary64 x / 536870912 % 2) < 2 ^ 64 = subst (λ (z : ℕ). z + (268435455 + z / 536870912 % 2) < 2 ^ 64) (sym e) (room c (k .1)) in
     record {
       number = subst (λ (z : Float). T (not (isNan z))) (neg-neg x) (neg-number y (above-no-nan y P));
@@ -321,6 +299,9 @@ below x F N a b =
       finite = subst (λ (z : Float). T (not (isNan z))) (neg-narrow x N) (neg-number (narrowOf y) (k .2));
     }
   where
+    whole : (c : ℕ) → c < 2 ^ 63 → (2 ^ 63 + c) / 2 ^ 52 % 2048 ≡ c / 2 ^ 52
+    whole c h = omega arith
+
     room : (c : ℕ) → closest c (2 ^ 29) * 2 ^ 29 < 2 ^ 63 → 9223372036854775808 + c + (268435455 + (9223372036854775808 + c) / 536870912 % 2) < 18446744073709551616
     room c h =
         let n = c + (268435455 + c / 536870912 % 2) in
@@ -348,23 +329,22 @@ below x F N a b =
         back : (q : ℕ) → (q + 8589934592 * 2) * 536870912 ≡ 9223372036854775808 + q * 536870912
         back q = omega arith
 
--- x by its size, as `size` gives it
-pub normal : (x : Float) → T (fits binary64 x) → T (lt tiny (cond (lt null x) x (neg x))) → T (lt (cond (lt null x) x (neg x)) (two-to 127)) → Normal x
-normal x F a b = go (lt null x) (λ t. t) a b
-  where
-    turned : T (lt tiny (neg x)) → T (lt x null)
-    turned t = flip x t
-      where
-        flip : (x : Float) → T (lt tiny (neg x)) → T (lt x null)
-        flip nan t = unfold lt neg in t
-        flip (inf true) t = unfold lt in tt
-        flip (inf false) t = unfold lt neg in t
-        flip (fin false m e) t = unfold lt neg in absurd t
-        flip (fin true m e) t = unfold lt in lib.Dec.lt→ltb 0 (m * up e * 1 + 0 * 1 * down e) (some (m * up e) (down e) (down-pos e) (ltb→lt (1 * 1 * down e) (m * up e * 2 ^ 126) (unfold lt neg in t)))
-          where
-            some : (n d : ℕ) → 0 < d → 1 * 1 * d < n * 2 ^ 126 → 0 < n * 1 + 0 * 1 * d
-            some n d p h = omega arith
+zero-field : (s : Bool) → field (toBits binary64 (fin s 0 (pos 0))) ≡ 0
+unfolding toBits
+zero-field true = refl
+zero-field false = refl
 
-    go : (c : Bool) → (T c → T (lt null x)) → T (lt tiny (cond c x (neg x))) → T (lt (cond c x (neg x)) (two-to 127)) → Normal x
-    go true p a b = above x F (p tt) a b
-    go false p a b = below x F (turned a) a b
+pub normal : (x : Float) → T (fits binary64 x) → T (not (isNan x)) → 896 < field (toBits binary64 x) → field (toBits binary64 x) < 1150 → Normal x
+normal x F n a b = go (lt null x) (lt x null) refl refl
+  where
+    none : (e : ℕ) → 896 < e → e ≡ 0 → ⊥
+    none e h z = omega arith
+
+    level-not : ((s : Bool) × (x ≡ fin s 0 (pos 0))) ⊎ (x ≡ nan) → ⊥
+    level-not (inl z) = none (field (toBits binary64 x)) a (ap (λ (v : Float). field (toBits binary64 v)) (z .1) ∙ zero-field (z .0))
+    level-not (inr z) = unfold isNan in absurd (subst (λ (v : Float). T (not (isNan v))) z n)
+
+    go : (c d : Bool) → lt null x ≡ c → lt x null ≡ d → Normal x
+    go true d p q = above x F (yes p) a b
+    go false true p q = below x F (yes q) a b
+    go false false p q = absurd (level-not (level binary64 x F (no p) (no q)))

@@ -1,6 +1,7 @@
 ghost use mathlib.Core.Path.{_≡_};
-ghost use mathlib.Core.Bool.{true, false, cond};
-ghost use lib.IntN.{pos, negsuc};
+ghost use mathlib.Core.Bool.{true, false, not};
+ghost use Prim.Native.Nat.{_/_, _%_, _^_, _<_};
+ghost use lib.IntN.{pos};
 ghost use lib.Dec.{T};
 ghost use lib.Ieee as Ieee;
 ghost use lib.Ieee.{fin, binary32, binary64};
@@ -90,16 +91,10 @@ fn narrow_any(x: f64) -> f32
     0.0 / 0.0
 }
 
-// x's size. A NaN stays.
-fn size(x: f64) -> f64
-    ensures { λ r. ⌜ r ≡ cond (Ieee.lt (fin false 0 (pos 0)) x) x (Ieee.neg x) ⌝ }
-{
-    if x > 0.0 { x } else { -x }
-}
-
-// Where the result is a normal number, the pattern's last 29 digits are rounded away: what is left is exactly an f32.
+// Where the exponent's field makes the result a normal number, the pattern's last 29 digits are rounded away: what is left is
+// exactly an f32.
 fn narrow_normal(x: f64) -> f32
-    requires { ⌜ T (Ieee.lt (fin false 1 (negsuc 125)) (cond (Ieee.lt (fin false 0 (pos 0)) x) x (Ieee.neg x))) ⌝ ∗ ⌜ T (Ieee.lt (cond (Ieee.lt (fin false 0 (pos 0)) x) x (Ieee.neg x)) (fin false 1 (pos 127))) ⌝ }
+    requires { ⌜ T (not (Ieee.isNan x)) ⌝ ∗ ⌜ 896 < Ieee.toBits binary64 x / 2 ^ 52 % 2048 ⌝ ∗ ⌜ Ieee.toBits binary64 x / 2 ^ 52 % 2048 < 1150 ⌝ }
     ensures { λ r. ⌜ r ≡ narrowOf x ⌝ }
 {
     let bits: u64 = f64::to_bits(x);
@@ -111,10 +106,12 @@ fn narrow_normal(x: f64) -> f32
 pub fn f64_to_f32(x: f64) -> f32
     ensures { λ r. ⌜ r ≡ narrowOf x ⌝ }
 {
-    let m = size(x);
-    if m < 170141183460469231731687303715884105728.0 {
-        if m > 1.1754943508222875e-38 {
-            return narrow_normal(x);
+    if x == x {
+        let field: u64 = (f64::to_bits(x) >> 52) % 2048;
+        if field > 896 {
+            if field < 1150 {
+                return narrow_normal(x);
+            }
         }
     }
     narrow_any(x)

@@ -4,3 +4,5 @@ pub mod Parts
 pub mod Small
 pub mod Quarter
 pub mod Ten
+pub mod Above
+pub mod Sign

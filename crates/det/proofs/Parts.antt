@@ -11,10 +11,10 @@ use lib.Pow.{pow-add, pow-pos, pow-mono, shl-lt}
 use lib.Signed.{ltZ}
 use lib.Ieee.{Float, nan, inf, fin, binary64, up, down, size, units, round, lt, le, eq, mul, fits, isNan, ofBits, toBits, nanBits}
 use lib.Ieee.Digits.{size-lt, size-reaches}
-use lib.Ieee.Fits.{and-i, eq→eqb, up-pos, down-pos}
+use lib.Ieee.Fits.{and-i, eq→eqb, up-pos}
 use lib.Ieee.Bits.{ofBits-fits}
 use lib.Ieee.Exact.{HasValue, units-val}
-use lib.Ieee.Order.{le-of-values, round-mono}
+use lib.Ieee.Order.{round-mono}
 use lib.Ieee.Positive.{num, den, positive, above, above-of-le, values-of-le, positive-of-value, first-pos, den-pos, own-value, mul-at}
 use mir.Syntax.{w32}
 use mir.Val.{SFits}
@@ -22,7 +22,7 @@ use Rattle.ieee.proofs.Tests.{null, yes, no, zero-64}
 use Rattle.ieee.proofs.Build.{size-is, build, no-nan-bits}
 use Rattle.ieee.proofs.Read.{Seen, seen, level, above-no-nan}
 use Rattle.ieee.proofs.Value.{same-value, fits-odd, fits-lt, revalue, den-power}
-use Rattle.det.proofs.Tests.{subℕ-ge, subℕ-lt}
+use Rattle.det.proofs.Tests.{subℕ-ge, subℕ-lt, le-of-not-below}
 use Rattle.det.specs.Log.{exponentOf, mantissaOf, minPositive, subnormalScale}
 
 -- ---- m * 2 ^ A = N * 2 ^ B, where m has s + 1 digits and N has 53
@@ -302,20 +302,8 @@ difference-small n m = go (ltb n 1023) (ltb→lt n 1023) (nltb→le n 1023)
     go false y k = subst (λ (z : ℤ). T (ltZ z (pos 1025))) (sym (subℕ-ge n 1023 (k tt))) (lt→ltb (n - 1023) 1025 (high n m))
 
 -- ---- which x the tests of `ln` leave
-not-below' : (x : Float) → isNan x ≡ false → lt x (fin false 1 (negsuc 1021)) ≡ false → T (le (fin false 1 (negsuc 1021)) x)
-unfolding isNan lt le
-not-below' nan n h = absurd (true≢false n)
-not-below' (inf true) n h = absurd (true≢false h)
-not-below' (inf false) n h = tt
-not-below' (fin true m e) n h = absurd (go (m * up e * down (negsuc 1021)) (1 * down e) (mul-pos (lit< tt) (down-pos e)) (nltb→le 0 (m * up e * down (negsuc 1021) + 1 * down e) (no h)))
-  where
-    go : (a b : ℕ) → 0 < b → a + b ≤ 0 → ⊥
-    go a b h g = omega arith
-not-below' (fin false m e) n h =
-    le-of-values (fin false 1 (negsuc 1021)) (fin false m e) 1 (2 ^ 1022) (m * up e) (down e) (pow-pos 1022) (down-pos e) (refl, refl) (refl, refl) (nltb→le (m * up e * 2 ^ 1022) (1 * down e) (no h))
-
 pub not-below : (x : Float) → isNan x ≡ false → lt x minPositive ≡ false → T (le minPositive x)
-not-below x n h = subst (λ (l : Float). T (le l x)) (sym least) (not-below' x n (subst (λ (l : Float). lt x l ≡ false) least h))
+not-below x n h = subst (λ (l : Float). T (le l x)) (sym least) (le-of-not-below (fin false 1 (negsuc 1021)) x tt n (subst (λ (l : Float). lt x l ≡ false) least h))
 
 -- either zero equals +0
 zero-equal : (g : Bool) → eq (fin g 0 (pos 0)) null ≡ true

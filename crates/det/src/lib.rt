@@ -3,11 +3,12 @@
 
 ghost use mathlib.Core.Path.{_≡_};
 ghost use Prim.Native.Nat.{_%_};
-ghost use lib.IntN.{pos};
+ghost use mathlib.Core.Bool.{false, not};
+ghost use lib.IntN.{pos, negsuc};
 ghost use lib.Dec.{T};
 ghost use lib.Signed.{ltZ};
 ghost use lib.Ieee as Ieee;
-ghost use lib.Ieee.{binary64};
+ghost use lib.Ieee.{fin, binary64};
 ghost use lib.Ieee.Positive.{num, den};
 ghost use Rattle.cast.specs.Narrow.{narrowOf};
 ghost use Rattle.det.specs.Trig.{sinPoly, cosPoly, reduce2pi, quadrantOf, turned, sinReduced, sinOf, cosOf};
@@ -228,7 +229,8 @@ const EXP_MAX: f64 = 7.09782712893383e+02;
 
 const EXP_MIN: f64 = -7.45133219101941e+02;
 
-pub fn exp(x: f64) -> f64
+// For every x.
+fn exp_plain(x: f64) -> f64
     ensures { λ r. ⌜ r ≡ expOf x ⌝ }
 {
     if x > EXP_MAX {
@@ -240,6 +242,59 @@ pub fn exp(x: f64) -> f64
     let k = float::round_f64(x * INV_LN2);
     let r = (x - k * LN2_HI) - k * LN2_LO;
     exp_poly(r) * ldexp2(whole_to_i64(k))
+}
+
+// For x from 2^-30 to 256. Adding 2^52 rounds x / ln 2 to a whole number, k, which the sum then has as its last digits: with
+// 1023 added, and what is above them shifted out, they are 2^k. A half that went down to an even k has to go up: the plain form.
+fn exp_above(x: f64) -> f64
+    requires { ⌜ T (Ieee.le (fin false 1 (negsuc 29)) x) ⌝ ∗ ⌜ T (Ieee.le x (fin false 1 (pos 8))) ⌝ }
+    ensures { λ r. ⌜ r ≡ expOf x ⌝ }
+{
+    let y = x * INV_LN2;
+    let s = y + 4503599627370496.0;
+    let k = s - 4503599627370496.0;
+    if y - k == 0.5 {
+        return exp_plain(x);
+    }
+    let r = (x - k * LN2_HI) - k * LN2_LO;
+    exp_poly(r) * f64::from_bits((f64::to_bits(s) + 1023) << 52)
+}
+
+// e^-x likewise, with 2^-k.
+fn exp_minus(x: f64) -> f64
+    requires { ⌜ T (Ieee.le (fin false 1 (negsuc 29)) x) ⌝ ∗ ⌜ T (Ieee.le x (fin false 1 (pos 8))) ⌝ }
+    ensures { λ r. ⌜ r ≡ expOf (Ieee.neg x) ⌝ }
+{
+    let y = x * INV_LN2;
+    let s = y + 4503599627370496.0;
+    let h = s - 4503599627370496.0;
+    if y - h == 0.5 {
+        return exp_plain(-x);
+    }
+    let k = -h;
+    let r = (-x - k * LN2_HI) - k * LN2_LO;
+    exp_poly(r) * f64::from_bits((0x4330_0000_0000_03ff - f64::to_bits(s)) << 52)
+}
+
+const EXP_NEAR: f64 = 9.313225746154785e-10;
+
+const EXP_FAR: f64 = 256.0;
+
+pub fn exp(x: f64) -> f64
+    ensures { λ r. ⌜ r ≡ expOf x ⌝ }
+{
+    if x >= EXP_NEAR {
+        if x <= EXP_FAR {
+            return exp_above(x);
+        }
+    }
+    let m = -x;
+    if m >= EXP_NEAR {
+        if m <= EXP_FAR {
+            return exp_minus(m);
+        }
+    }
+    exp_plain(x)
 }
 
 const INV_FACT_2: f64 = 1.0 / 2.0;
@@ -404,6 +459,7 @@ pub fn log10(x: f64) -> f64
 
 // The sign times tanh x, for an x that is not below 0. Near 0 the form 1 - 2 / (e^2x + 1) would cancel.
 fn tanh_above(x: f64, sign: f64) -> f64
+    requires { ⌜ T (not (Ieee.isNan x)) ⌝ }
     ensures { λ r. ⌜ r ≡ tanhAbove x sign ⌝ }
 {
     if x > 20.0 {
@@ -413,19 +469,22 @@ fn tanh_above(x: f64, sign: f64) -> f64
         let e = expm1_small(2.0 * x);
         return sign * (e / (e + 2.0));
     }
-    sign * (1.0 - 2.0 / (exp(2.0 * x) + 1.0))
+    sign * (1.0 - 2.0 / (exp_above(2.0 * x) + 1.0))
 }
 
+// The size and the sign are taken from the pattern: a branch on the sign misses half the time on noise.
 pub fn tanh(x: f64) -> f64
     ensures { λ r. ⌜ r ≡ tanhOf x ⌝ }
 {
     if x != x {
         return 0.0 / 0.0;
     }
-    if x < 0.0 {
-        return tanh_above(-x, -1.0);
-    }
-    tanh_above(x, 1.0)
+    let bits: u64 = f64::to_bits(x);
+    let size = bits & 0x7fff_ffff_ffff_ffff;
+    tanh_above(
+        f64::from_bits(size),
+        f64::from_bits(0x3ff0_0000_0000_0000 + (bits - size)),
+    )
 }
 
 // ---- f32: the f64 function, rounded once

@@ -364,12 +364,6 @@ module _ (x y : Float) (F : T (fits binary32 x)) (G : T (fits binary32 y)) (z : 
 pub max-null : (x : Float) → T (fits binary32 x) → T (not (lt null x)) → null ≡ maxOf x null
 max-null x F h = go (lt x null) refl
   where
-    null-number : isNan null ≡ false
-    null-number = unfold isNan in refl
-
-    irr : lt null null ≡ false
-    irr = unfold lt in refl
-
     go : (b : Bool) → lt x null ≡ b → null ≡ maxOf x null
     go true e = max-right x null (yes e)
     go false e = at (level binary32 x F h (no e))

@@ -213,7 +213,7 @@ module _ (f : Format) (y : Float) (a c : ℕ) (C : 0 < c) (v : HasValue y false 
       under : (a b : ℕ) → a < b → a + b < b + b
       under a b h = omega arith
 
-  raised : add f y (two-to (prec f - 1)) ≡ units f false (closest a c + P) (low f)
+  pub raised : add f y (two-to (prec f - 1)) ≡ units f false (closest a c + P) (low f)
   raised =
       add-values f y (two-to (prec f - 1)) a c P 1 C (zero-lt-suc 0) v (two-to-value (prec f - 1))
       ∙ (λ i. round f false (mul-one a i + P * c) (mul-one c i))

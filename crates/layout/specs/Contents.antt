@@ -1,27 +1,23 @@
 -- What check 6 says of the chains of an accepted sheet, link by link, and of those that are built.
-use mathlib.Core.Path.{_≡_, refl, sym, ap, ap₂, _∙_}
-use mathlib.Core.Bool.{Bool, true, false, cond, _&&_}
+use mathlib.Core.Path.{_≡_, refl, sym, ap, _∙_}
+use mathlib.Core.Bool.{Bool, true, false, _&&_}
 use mathlib.Core.List.{List, [], _∷_, map}
 use mathlib.Core.Logic.{_≢_}
-use Prim.Native.Nat.{ℕ, zero, suc, _+_, _≤_, _<_}
+use Prim.Native.Nat.{ℕ, suc, _<_}
 use native.Mathlib.Omega.{arith}
 use native.Mathlib.Decide.{ℕ-discrete}
-use borrow.Author.Tests.{eqb-true, ltb-true, leb-true, ne-eqb}
-use lib.Dec.{eqb, ltb, leb}
+use borrow.Author.Tests.{eqb-true, ltb-true, ne-eqb}
+use lib.Dec.{eqb, ltb}
 use lib.ListN.{length}
-use Rattle.tree.specs.Tree.{Tree, node}
-use Rattle.tree.specs.Forest.{whole, whole-nil, whole-node}
 use Rattle.sheet.specs.Bytes.{u16At}
 use Rattle.sheet.specs.Record.{countOf, optionOf, recordAt, kind, first, next}
-use Rattle.sheet.specs.Kinds.{Chain, empty, values, nodes, modes, steps, rowOf, lookup, isNode, isValue, isFold}
+use Rattle.sheet.specs.Kinds.{Chain, empty, values, nodes, rowOf, lookup, isNode, isValue, isFold}
 use Rattle.sheet.specs.Tree.{records, spine}
-use Rattle.sheet.specs.Checks.{all, every, holds, chainOk, recordOk}
+use Rattle.sheet.specs.Checks.{every, holds, chainOk, recordOk}
 use Rattle.layout.specs.Built.{owner, built, role, isPlayed, begin, after}
-use Rattle.layout.specs.Good.{Good, false-true, and-left, and-right}
-use Rattle.sheet.specs.Laws.{all-at}
-use Rattle.layout.specs.Owners.{owner-first, owner-next, owner-below, records-none, records-some, reached}
+use Rattle.layout.specs.Good.{Good, and-left, and-right}
+use Rattle.layout.specs.Owners.{owner-first, owner-next, records-none, records-some, reached}
 use Rattle.layout.specs.Roles.{begin-built, begin-other, after-next, leaf-built}
-use Rattle.layout.specs.Played.{played-forest, begin-in, after-in}
 
 -- a kind whose chain does not hold nodes is no Mix, Mul or Chain
 pub no-nodes : (k : ℕ) → rowOf k .chain ≢ nodes → (isFold k ≡ false) × (k ≢ 13)
@@ -102,14 +98,6 @@ module _ (s : List ℕ) (g : Good s) where
   unfolding holds
   in-nodes i j l e d h o = chain-every isNode i j d h o (holds-at i l nodes e)
 
-  pub in-modes : (i j : ℕ) → i < countOf s → rowOf (kind s i) .chain ≡ modes → j ≢ 0 → j < countOf s → owner s j ≡ i → kind s j ≡ 51
-  unfolding holds
-  in-modes i j l e d h o = eqb-true (kind s j) 51 (chain-every (λ k. eqb k 51) i j d h o (holds-at i l modes e))
-
-  pub in-steps : (i j : ℕ) → i < countOf s → rowOf (kind s i) .chain ≡ steps → j ≢ 0 → j < countOf s → owner s j ≡ i → kind s j ≡ 52
-  unfolding holds
-  in-steps i j l e d h o = eqb-true (kind s j) 52 (chain-every (λ k. eqb k 52) i j d h o (holds-at i l steps e))
-
   pub in-values : (i j n : ℕ) → i < countOf s → rowOf (kind s i) .chain ≡ values n → j ≢ 0 → j < countOf s → owner s j ≡ i → isValue (kind s j) ≡ true
   unfolding holds
   in-values i j n l e d h o = chain-every isValue i j d h o (and-right (eqb (length (kindsFrom s (first s i))) n) (every isValue (kindsFrom s (first s i))) (holds-at i l (values n) e))
@@ -175,88 +163,3 @@ module _ (s : List ℕ) (g : Good s) where
     | yes z ↦ z
     | no d ↦ begin-other s i (begin-built s i d) (no-nodes (kind s i) (empty-nodes _ e) .1) ∙ no-chain i h e
   ]
-
--- ---- beneath a record whose chain does not hold nodes, everything is built
-abbrev isNodes : Chain → Bool
-isNodes empty = false
-isNodes (values n) = false
-isNodes nodes = true
-isNodes modes = false
-isNodes steps = false
-
-nodes-low : all (λ k. cond (isNodes (rowOf k .chain)) (leb k 13) true) 53 ≡ true
-unfolding all lookup
-nodes-low = refl
-
-not-nodes : (k : ℕ) → 13 < k → k < 53 → rowOf k .chain ≢ nodes
-not-nodes k l h e =
-    let t = all-at (λ k. cond (isNodes (rowOf k .chain)) (leb k 13) true) 53 nodes-low k h in
-    omega (arith, leb-true k 13 (rw e at t))
-
--- the tree of what is played, from j on
-abbrev pub playedFrom : List ℕ → ℕ → Tree
-playedFrom s j = whole (begin s) (after s) (countOf s) j
-
-module _ (s : List ℕ) (g : Good s) where
-  -- a record in such a chain has no such nodes beneath it either
-  plain : (i j : ℕ) → i < countOf s → rowOf (kind s i) .chain ≢ nodes → j ≢ 0 → j < countOf s → owner s j ≡ i → rowOf (kind s j) .chain ≢ nodes
-  unfolding every
-  plain i j l n d h o = go (rowOf (kind s i) .chain) refl
-    where
-      none : rowOf (kind s i) .chain ≡ empty → every (λ k. false) (kindsFrom s (first s i)) ≡ true
-      none e = rw (no-chain s g i l e, kinds-none s g)
-
-      go : (c : Chain) → rowOf (kind s i) .chain ≡ c → rowOf (kind s j) .chain ≢ nodes
-      go empty e = absurd (false-true (chain-every s g (λ k. false) i j d h o (none e)))
-      go (values m) e =
-          let v = in-values s g i j m l e d h o in
-          let a = leb-true 41 (kind s j) (and-left (leb 41 (kind s j)) (leb (kind s j) 46) v) in
-          let b = leb-true (kind s j) 46 (and-right (leb 41 (kind s j)) (leb (kind s j) 46) v) in
-          not-nodes (kind s j) (omega arith) (omega arith)
-      go nodes e = absurd (n e)
-      go modes e = let k = in-modes s g i j l e d h o in not-nodes (kind s j) (omega arith) (omega arith)
-      go steps e = let k = in-steps s g i j l e d h o in not-nodes (kind s j) (omega arith) (omega arith)
-
-  -- j is none, or stands in such a chain of a built record
-  pub record Under (j : ℕ) : Type 0 where
-    pub in-sheet : j < countOf s
-    pub made : role s (owner s j) ≡ built
-    pub no-node : rowOf (kind s (owner s j)) .chain ≢ nodes
-
-  pub under-built : (j : ℕ) → j ≢ 0 → Under j → role s j ≡ built
-  under-built j d u = let k = no-nodes (kind s (owner s j)) (u .no-node) in leaf-built s g j d (u .in-sheet) (u .made) (k .0) (k .1)
-
-  under-plain : (j : ℕ) → j ≢ 0 → Under j → rowOf (kind s j) .chain ≢ nodes
-  under-plain j d u = let b = owner-below s g j d (u .in-sheet) in plain (owner s j) j (omega (arith, u .in-sheet)) (u .no-node) d (u .in-sheet) refl
-
-  pub under-first : (j : ℕ) → role s j ≡ built → rowOf (kind s j) .chain ≢ nodes → first s j ≢ 0 → Under (first s j)
-  under-first j r c d = let o = owner-first s g j (first s j) refl d in record { in-sheet = g .first-in j d; made = rw o r; no-node = rw o c }
-
-  under-next : (j : ℕ) → Under j → next s j ≢ 0 → Under (next s j)
-  under-next j u d = let o = owner-next s g j (next s j) refl d in record { in-sheet = g .next-in j d; made = rw o (u .made); no-node = rw o (u .no-node) }
-
-  -- what is played of such a chain is all of it
-  pub under-all : (j : ℕ) → (j ≢ 0 → Under j) → playedFrom s j ≡ records s j
-  under-all j = go (countOf s) j (omega arith)
-    where
-      nothing : (j : ℕ) → j ≡ 0 → playedFrom s j ≡ records s j
-      nothing j e = ap (playedFrom s) e ∙ whole-nil (begin s) (after s) (countOf s) ∙ sym (records-none s g) ∙ ap (records s) (sym e)
-
-      go : (n j : ℕ) → countOf s ≤ n + j → (j ≢ 0 → Under j) → playedFrom s j ≡ records s j
-      go zero j l w = elim (ℕ-discrete j 0) [ yes e ↦ nothing j e | no d ↦ absurd (omega (arith, w d .in-sheet)) ]
-      go (suc n) j l w = elim (ℕ-discrete j 0) [
-        | yes e ↦ nothing j e
-        | no d ↦
-            let u = w d in
-            let r = under-built j d u in
-            let c = under-plain j d u in
-            let b = begin-other s j r (no-nodes (kind s j) c .1) in
-            let a = after-next s j (ap isPlayed r) in
-            whole-node (begin s) (after s) (played-forest s g) (countOf s) (begin-in s g) (after-in s g) j d (u .in-sheet)
-            ∙ ap₂ (node j) (ap (playedFrom s) b ∙ lower n j l d (first s j) (λ z. under-first j r c z) (g .forest .first-up j) (go n (first s j)))
-            (ap (playedFrom s) a ∙ lower n j l d (next s j) (λ z. under-next j u z) (g .forest .next-up j) (go n (next s j)))
-            ∙ sym (records-some s g j d (u .in-sheet))
-      ]
-        where
-          lower : (n j : ℕ) → countOf s ≤ suc n + j → j ≢ 0 → (k : ℕ) → (k ≢ 0 → Under k) → (k ≢ 0 → j < k) → (countOf s ≤ n + k → (k ≢ 0 → Under k) → playedFrom s k ≡ records s k) → playedFrom s k ≡ records s k
-          lower n j l d k u up f = elim (ℕ-discrete k 0) [ yes e ↦ nothing k e | no z ↦ f (omega (arith, up z)) u ]

@@ -1,23 +1,22 @@
--- The needs by numbers alone, as the code works them out: a table for the kinds whose need is fixed, and the six whose cells depend on more.
+-- The needs by numbers alone, as the code works them out: a row for each kind that needs some.
 use mathlib.Core.Path.{_≡_, refl, sym, ap, _∙_}
-use mathlib.Core.Bool.{Bool, true, cond, _&&_}
+use mathlib.Core.Bool.{cond}
 use mathlib.Core.List.{List, [], _∷_}
 use mathlib.Core.Logic.{_≢_}
 use Prim.Native.Nat.{ℕ, zero, suc, _+_, _*_, _≤_, _<_}
 use native.Mathlib.Omega.{arith}
-use native.Mathlib.Decide.{decLt, ℕ-discrete}
-use borrow.Author.Tests.{eqb-true, leb-true, ne-eqb}
-use lib.Dec.{eqb, leb}
-use lib.ListN.{length, getD, set, length-set, List·getD-eq-default}
+use native.Mathlib.Decide.{ℕ-discrete}
+use borrow.Author.Tests.{ne-eqb}
+use lib.ListN.{length, getD, set, length-set}
 use Rattle.tree.specs.Flat.{Layout, Rows}
 use Rattle.sheet.specs.Record.{countOf, rateOf, optionOf, numberOf, recordAt, kind, first, next}
 use Rattle.sheet.specs.Tree.{records, spine}
-use Rattle.sheet.specs.Checks.{all, sum}
-use Rattle.sheet.specs.Laws.{all-at, sum-suc}
+use Rattle.sheet.specs.Checks.{sum}
+use Rattle.sheet.specs.Laws.{sum-suc}
 use Rattle.lines.specs.Lines.{delayLine, chorusLine}
 use Rattle.layout.specs.Built.{role, built, isBuilt}
 use Rattle.layout.specs.Needs.{Need, needs, needOf, voicesOf, noiseCells, reverbCells, chainLength, cellsBy, registersBy, scratchBy, cells, registers, scratch, cellsFrom, registersFrom, scratchFrom}
-use Rattle.layout.specs.Good.{Good, good, and-left, and-right}
+use Rattle.layout.specs.Good.{Good, good}
 use Rattle.layout.specs.Tables.{Table, Passed, roleCode, codeRole, role-code, code-unbuilt, code-built, next-entry, Below, front-more}
 use Rattle.layout.specs.Owners.{records-none, records-some, along}
 
@@ -41,13 +40,6 @@ noise-other zero a b = absurd (a refl)
 noise-other (suc zero) a b = absurd (b refl)
 noise-other (suc (suc c)) a b = refl
 
--- the kinds whose cells are fixed
-abbrev pub cellsTable : List ℕ
-cellsTable = 0 ∷ 1 ∷ 1 ∷ 1 ∷ 2 ∷ 2 ∷ 0 ∷ 0 ∷ 0 ∷ 0 ∷ 1 ∷ 0 ∷ 0 ∷ 0 ∷ 0 ∷ 0 ∷ 0 ∷ 0 ∷ 0 ∷ 0 ∷ 0 ∷ 0 ∷ 11 ∷ 11 ∷ 11 ∷ 11 ∷ 11 ∷ 11 ∷ 11 ∷ 0 ∷ 0 ∷ 0 ∷ 4 ∷ 0 ∷ 0 ∷ 4 ∷ 0 ∷ 0 ∷ 0 ∷ 0 ∷ 0 ∷ 0 ∷ 0 ∷ 0 ∷ 0 ∷ 0 ∷ 3 ∷ []
-
-abbrev pub registersTable : List ℕ
-registersTable = 0 ∷ 0 ∷ 0 ∷ 0 ∷ 0 ∷ 0 ∷ 0 ∷ 0 ∷ 0 ∷ 1 ∷ 1 ∷ 0 ∷ 0 ∷ 0 ∷ 0 ∷ 0 ∷ 0 ∷ 0 ∷ 0 ∷ 0 ∷ 0 ∷ 0 ∷ 0 ∷ 0 ∷ 0 ∷ 0 ∷ 0 ∷ 0 ∷ 0 ∷ 1 ∷ 10 ∷ 0 ∷ 0 ∷ 0 ∷ 1 ∷ 0 ∷ 0 ∷ 0 ∷ 0 ∷ 0 ∷ 0 ∷ 0 ∷ 0 ∷ 0 ∷ 0 ∷ 0 ∷ 1 ∷ []
-
 abbrev pub registerRows : List Need
 registerRows = needs 9 1 ∷ needs 10 1 ∷ needs 29 1 ∷ needs 30 10 ∷ needs 34 1 ∷ needs 46 1 ∷ []
 
@@ -68,44 +60,10 @@ pub scratch-with : (s : List ℕ) (i : ℕ) → scratchBy s i ≡ scratchWith (k
 unfolding scratchBy
 scratch-with s i = refl
 
--- ---- a table's rule: a test at each entry, and past the entries no row has the number
-low : List Need → Bool
-low [] = true
-low (needs j n ∷ rest) = leb j 46 && low rest
-
-need-past : (rs : List Need) (k : ℕ) → low rs ≡ true → 47 ≤ k → needOf k rs ≡ 0
-unfolding needOf low
-need-past [] k e h = refl
-need-past (needs j n ∷ rest) k e h =
-    let l = leb-true j 46 (and-left (leb j 46) (low rest) e) in
-    rw (ne-eqb j k (λ q. omega arith)) (need-past rest k (and-right (leb j 46) (low rest) e) h)
-
-module _ (rows : List Need) (table : List ℕ) where
-  test : ℕ → Bool
-  test k = eqb (getD table k 0) (needOf k rows) && leb (getD table k 0) 11
-
-  table-is : length table ≡ 47 → low rows ≡ true → all test 47 ≡ true → (k : ℕ) → (getD table k 0 ≡ needOf k rows) × (getD table k 0 ≤ 11)
-  unfolding test
-  table-is l e t k = elim (decLt k 47) [
-    | yes h ↦
-        let b = all-at test 47 t k h in
-        (eqb-true _ _ (and-left (eqb (getD table k 0) (needOf k rows)) (leb (getD table k 0) 11) b), leb-true _ _ (and-right (eqb (getD table k 0) (needOf k rows)) (leb (getD table k 0) 11) b))
-    | no h ↦
-        let z : getD table k 0 ≡ 0 = List·getD-eq-default table 0 {n = k} (omega arith) in
-        (z ∙ sym (need-past rows k e (omega arith)), omega arith)
-  ]
-
-pub registers-fixed : (k : ℕ) → (getD registersTable k 0 ≡ registersWith k) × (getD registersTable k 0 ≤ 11)
-unfolding all test needOf low
-registers-fixed k = table-is registerRows registersTable refl refl refl k
-
-pub cells-fixed : (k : ℕ) → (getD cellsTable k 0 ≡ needOf k (cellRows 0 0 0 0 0 0)) × (getD cellsTable k 0 ≤ 11)
-unfolding all test needOf low
-cells-fixed k = table-is (cellRows 0 0 0 0 0 0) cellsTable refl refl refl k
-
-pub cells-other : (k : ℕ) → 6 ≢ k → 9 ≢ k → 29 ≢ k → 30 ≢ k → 31 ≢ k → 34 ≢ k → (v c d b m h : ℕ) → needOf k (cellRows 0 0 0 0 0 0) ≡ needOf k (cellRows v c d b m h)
+-- a kind without a row
+pub cells-other : (k v c d b m h : ℕ) → 1 ≢ k → 2 ≢ k → 3 ≢ k → 4 ≢ k → 5 ≢ k → 6 ≢ k → 9 ≢ k → 10 ≢ k → 22 ≢ k → 23 ≢ k → 24 ≢ k → 25 ≢ k → 26 ≢ k → 27 ≢ k → 28 ≢ k → 29 ≢ k → 30 ≢ k → 31 ≢ k → 32 ≢ k → 34 ≢ k → 35 ≢ k → 46 ≢ k → 0 ≡ needOf k (cellRows v c d b m h)
 unfolding needOf
-cells-other k n6 n9 n29 n30 n31 n34 v c d b m h = rw (ne-eqb 6 k n6, ne-eqb 9 k n9, ne-eqb 29 k n29, ne-eqb 30 k n30, ne-eqb 31 k n31, ne-eqb 34 k n34)
+cells-other k v c d b m h n1 n2 n3 n4 n5 n6 n9 n10 n22 n23 n24 n25 n26 n27 n28 n29 n30 n31 n32 n34 n35 n46 = rw (ne-eqb 1 k n1, ne-eqb 2 k n2, ne-eqb 3 k n3, ne-eqb 4 k n4, ne-eqb 5 k n5, ne-eqb 6 k n6, ne-eqb 9 k n9, ne-eqb 10 k n10, ne-eqb 22 k n22, ne-eqb 23 k n23, ne-eqb 24 k n24, ne-eqb 25 k n25, ne-eqb 26 k n26, ne-eqb 27 k n27, ne-eqb 28 k n28, ne-eqb 29 k n29, ne-eqb 30 k n30, ne-eqb 31 k n31, ne-eqb 32 k n32, ne-eqb 34 k n34, ne-eqb 35 k n35, ne-eqb 46 k n46)
 
 -- a chain's length counts for Modal only
 no-modes : (k : ℕ) → 31 ≢ k → (r : List ℕ) (rate m n : ℕ) → cellsWith r rate k m ≡ cellsWith r rate k n
@@ -131,9 +89,6 @@ cells-built s i r = rw r
 
 pub registers-built : (s : List ℕ) (i : ℕ) → role s i ≡ built → registers s i ≡ registersBy s i
 registers-built s i r = rw r
-
-pub scratch-built : (s : List ℕ) (i : ℕ) → role s i ≡ built → scratch s i ≡ scratchBy s i
-scratch-built s i r = rw r
 
 pub cells-none : (s : List ℕ) (i r : ℕ) → r ≡ roleCode (role s i) → r < 2 → cells s i ≡ 0
 cells-none s i r er h = rw (sym (role-code (role s i)), ← er, code-unbuilt r h)
@@ -189,17 +144,13 @@ unfolding sum
 sum-above f zero j h = let x : ⊥ = omega arith in absurd x
 sum-above f (suc n) j h = elim (ℕ-discrete j n) [ yes q ↦ rw q (omega arith) | no d ↦ omega (arith, sum-above f n j (omega arith)) ]
 
--- what each record owns of the cells and the registers; no two own the same, and neither do two blocks of scratch overlap
+-- what each record owns of the cells and the registers; no two own the same
 abbrev pub layoutOf : List ℕ → Layout
 layoutOf s = record { co = cellsFrom s; cn = cells s; ro = registersFrom s; rn = registers s }
 
 pub rows-of : (s : List ℕ) → Rows (layoutOf s)
 unfolding sum
 rows-of s = record { cells = λ j. omega arith; regs = λ j. omega arith }
-
-pub scratch-rows : (s : List ℕ) (j : ℕ) → scratchFrom s j + scratch s j ≤ scratchFrom s (suc j)
-unfolding sum
-scratch-rows s j = omega arith
 
 -- all within what the sheet needs
 pub cells-within : (s : List ℕ) (j : ℕ) → j < countOf s → cellsFrom s j + cells s j ≤ cellsFrom s (countOf s)

@@ -93,10 +93,6 @@ owner-step s n m j e = ap (cond (eqb (first s (linker s j)) j) (linker s j)) e
 
 module _ (s : List ℕ) (g : Good s) where
   -- ---- the linker of j is the one record with a link to j
-  linker-at : (i j : ℕ) → i < countOf s → leads s j i ≡ true → (linker s j < countOf s) × (leads s j (linker s j) ≡ true)
-  unfolding linker
-  linker-at i j h e = let l = find-found (leads s j) (countOf s) i h e in (l, find-is (leads s j) (countOf s) l)
-
   pub linker-in : (j : ℕ) → j ≢ 0 → j < countOf s → linker s j < countOf s
   unfolding linker linksTo
   linker-in j d h = elim (ℕ-discrete (find (leads s j) (countOf s)) (countOf s)) [

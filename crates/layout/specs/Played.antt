@@ -224,13 +224,6 @@ module _ (s : List ℕ) (g : Good s) where
   root-played : isPlayed (role s 0) ≡ true
   root-played = rw (role-root s g) (either (isProcessor (kind s 0)))
 
-  -- a Chain that begins with a processor has nothing else, and none of its stages is left out
-  pub begin-source : (i : ℕ) → kind s i ≡ 13 → begin s i ≢ 0 → isProcessor (kind s (begin s i)) ≡ true → begin s i ≡ first s i
-  begin-source i k d p =
-      let e = begin-chain s i (begin-built s i d) k in
-      let n : first s i ≢ 0 = λ z. d (e ∙ ap (stageFrom s) z ∙ stage-none s g) in
-      e ∙ staged s g (first s i) n (g .first-in i n) .source (rw e at p)
-
   pub in-played : {j : ℕ} → In j (playedTree s) → (isPlayed (role s j) ≡ true) × (j < countOf s)
   in-played p = root-all (begin s) (after s) (λ j. (isPlayed (role s j) ≡ true) × (j < countOf s))
       (λ i w d. (begin-played i (w .0) d, begin-in i d))

@@ -158,8 +158,6 @@ module _ (s : List ℕ) (g : Good s) where
     pub last : trailing s (stageFrom s a) ≡ true
     pub same : owner s (stageFrom s a) ≡ owner s a
     pub before : (j : ℕ) → next s j ≡ stageFrom s a → (next s j ≡ a) ⊎ (trailing s j ≡ false)
-    -- it is a processor only where all are
-    pub source : isProcessor (kind s (stageFrom s a)) ≡ true → stageFrom s a ≡ a
 
   staged-here : (a : ℕ) → a ≢ 0 → a < countOf s → trailing s a ≡ true → Staged a
   staged-here a d h t = let e = stage-here a d h t in record {
@@ -169,11 +167,7 @@ module _ (s : List ℕ) (g : Good s) where
     last = rw e t;
     same = rw e;
     before = λ j q. inl (q ∙ e);
-    source = λ _. e;
   }
-
-  all-on : (a : ℕ) → next s a ≢ 0 → isProcessor (kind s (next s a)) ≡ true → trailing s (next s a) ≡ true → trailing s a ≡ true
-  all-on a n p q = trailing-some a (next s a) refl n ∙ rw (p, q)
 
   staged-on : (a : ℕ) → a ≢ 0 → a < countOf s → trailing s a ≡ false → Staged (next s a) → Staged a
   staged-on a d h t w =
@@ -189,7 +183,6 @@ module _ (s : List ℕ) (g : Good s) where
           | inl z ↦ inr (ap (trailing s) (sym (g .forest .next-one a j n (sym z))) ∙ t)
           | inr z ↦ inr z
         ];
-        source = λ p. let q = w .source (rw e at p) in absurd (false-true (sym t ∙ all-on a n (rw q at (rw e at p)) (rw q at (w .last))));
       }
 
   pub staged : (a : ℕ) → a ≢ 0 → a < countOf s → Staged a
@@ -231,11 +224,6 @@ module _ (s : List ℕ) (g : Good s) where
   unfolding roleIn
   chain-built j d h r k t = role-under j d h r ∙ rw (k, t)
 
-  -- in a Mix or Mul: a processor is silent, any other input is built
-  pub fold-role : (j : ℕ) → j ≢ 0 → j < countOf s → role s (owner s j) ≡ built → isFold (kind s (owner s j)) ≡ true → role s j ≡ cond (isProcessor (kind s j)) silent built
-  unfolding roleIn
-  fold-role j d h r k = role-under j d h r ∙ rw k
-
   -- in any other record's chain all is built; in any but a Chain's all is played
   pub leaf-built : (j : ℕ) → j ≢ 0 → j < countOf s → role s (owner s j) ≡ built → isFold (kind s (owner s j)) ≡ false → kind s (owner s j) ≢ 13 → role s j ≡ built
   unfolding roleIn
@@ -265,20 +253,3 @@ module _ (s : List ℕ) (g : Good s) where
 
       r : role s (owner s i) ≡ built
       r = played-owner i d (next-inside s g i n) e
-
-  -- after a stage that is played stand processors
-  pub after-processor : (j : ℕ) → kind s (owner s j) ≡ 13 → after s j ≢ 0 → isProcessor (kind s (after s j)) ≡ true
-  after-processor j k d = rw (after-next s j p) (go (isProcessor (kind s (next s j))) (trailing s (next s j)) (sym (trailing-some j (next s j) refl n) ∙ chain-last j z (next-inside s g j n) k p))
-    where
-      p : isPlayed (role s j) ≡ true
-      p = after-played s j d
-
-      n : next s j ≢ 0
-      n y = d (after-next s j p ∙ y)
-
-      z : j ≢ 0
-      z y = n (ap (next s) y ∙ g .alone)
-
-      go : (a b : Bool) → a && b ≡ true → a ≡ true
-      go true b e = refl
-      go false b e = e

@@ -149,7 +149,8 @@ pub fn links(
     }
 }
 
-fn plan_in(
+// Each record's role, and the links of what is played. The tables `owned`, `lasts` and `froms` are lent for the passes between.
+pub fn plan(
     sheet: &[u8],
     count: usize,
     kinds: &[u8],
@@ -176,39 +177,6 @@ fn plan_in(
         firsts,
         nexts,
         froms,
-        acts,
-        begins,
-        afters,
-    );
-}
-
-// Each record's role, and the links of what is played.
-pub fn plan(
-    sheet: &[u8],
-    count: usize,
-    kinds: &[u8],
-    firsts: &[usize],
-    nexts: &[usize],
-    acts: &mut [u8],
-    begins: &mut [usize],
-    afters: &mut [usize],
-)
-    requires { ⌜ Passed (now sheet) count × Table (kind (now sheet)) count (now kinds) × Table (first (now sheet)) count (now firsts) × Table (next (now sheet)) count (now nexts) ⌝ }
-    requires { ⌜ (count ≤ length (now acts)) × (count ≤ length (now begins)) × (count ≤ length (now afters)) ⌝ }
-    ensures { λ r. ⌜ Table (λ j. roleCode (role (now (sheet .entry)) j)) count (now (acts .exit)) × Table (begin (now (sheet .entry))) count (now (begins .exit)) × Table (after (now (sheet .entry))) count (now (afters .exit)) ⌝ }
-{
-    let mut owned = [0usize; 256];
-    let mut lasts = [0u8; 256];
-    let mut froms = [0usize; 256];
-    plan_in(
-        sheet,
-        count,
-        kinds,
-        firsts,
-        nexts,
-        &mut owned,
-        &mut lasts,
-        &mut froms,
         acts,
         begins,
         afters,

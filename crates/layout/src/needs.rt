@@ -3,115 +3,14 @@ ghost use mathlib.Core.Path.{_≡_};
 ghost use mathlib.Core.Bool.{cond};
 ghost use Prim.Native.Nat.{_+_, _*_, _≤_, _<_, min, max};
 ghost use lib.ListN.{length};
-ghost use Rattle.sheet.specs.Record.{countOf, rateOf, kind, first, next};
+ghost use Rattle.sheet.specs.Record.{kind, first, next};
 ghost use Rattle.sheet.specs.Tree.{records, spine};
 ghost use Rattle.sheet.specs.Checks.{sum};
 ghost use Rattle.lines.specs.Lines.{combLine, allpassLine};
 ghost use Rattle.layout.specs.Built.{role, isBuilt};
-ghost use Rattle.layout.specs.Needs.{needOf, noiseCells, reverbCells, cells, cellsFrom, registersFrom, scratchFrom};
+ghost use Rattle.layout.specs.Needs.{noiseCells, reverbCells, cells};
 ghost use Rattle.layout.specs.Tables.{Table, Passed, roleCode, codeRole};
-ghost use Rattle.layout.specs.Counts.{cellRows, cellsWith, registersWith, scratchWith, Placed};
-
-// By kind: the cells of those that need a fixed number, and the registers.
-const CELLS: [u64; 47] = [
-    0,
-    1,
-    1,
-    1,
-    2,
-    2,
-    0,
-    0,
-    0,
-    0,
-    1,
-    0,
-    0,
-    0,
-    0,
-    0,
-    0,
-    0,
-    0,
-    0,
-    0,
-    0,
-    11,
-    11,
-    11,
-    11,
-    11,
-    11,
-    11,
-    0,
-    0,
-    0,
-    4,
-    0,
-    0,
-    4,
-    0,
-    0,
-    0,
-    0,
-    0,
-    0,
-    0,
-    0,
-    0,
-    0,
-    3,
-];
-
-const REGISTERS: [u64; 47] = [
-    0,
-    0,
-    0,
-    0,
-    0,
-    0,
-    0,
-    0,
-    0,
-    1,
-    1,
-    0,
-    0,
-    0,
-    0,
-    0,
-    0,
-    0,
-    0,
-    0,
-    0,
-    0,
-    0,
-    0,
-    0,
-    0,
-    0,
-    0,
-    0,
-    1,
-    10,
-    0,
-    0,
-    0,
-    1,
-    0,
-    0,
-    0,
-    0,
-    0,
-    0,
-    0,
-    0,
-    0,
-    0,
-    0,
-    1,
-];
+ghost use Rattle.layout.specs.Counts.{cellsWith, registersWith, scratchWith, Placed};
 
 pub struct Needs {
     pub cells: u64,
@@ -172,34 +71,51 @@ fn reverb(rate: u32) -> u64
     combs(rate) + allpasses(rate) + 6
 }
 
-fn fixed(k: u8) -> u64
-    ensures { λ r. ⌜ (r ≡ needOf k (cellRows 0 0 0 0 0 0)) × (r ≤ 11) ⌝ }
-{
-    let i = k as usize;
-    if i < 47 { CELLS[i] } else { 0 }
-}
-
-// A record's cells, by the bytes from its first on, its kind, and how many records its chain has.
+// A record's cells, by the bytes from its first on, its kind, and how many records its chain has. A constant array by kind
+// would be copied at each use; a match is a jump.
 fn cells_of(r: &[u8], rate: u32, k: u8, chain: u64) -> u64
     requires { ⌜ (40 ≤ length (now r)) × (rate ≤ 192000) × (chain ≤ 256) ⌝ }
     ensures { λ x. ⌜ (x ≡ cellsWith (now (r .entry)) rate k chain) × (x ≤ 5760000) ⌝ }
 {
     match k {
+        1 => 1,
+        2 => 1,
+        3 => 1,
+        4 => 2,
+        5 => 2,
         6 => 2 * voices(sheet::bits(r, 0)),
         9 => noise(sheet::option(r)),
+        10 => 1,
+        22 => 11,
+        23 => 11,
+        24 => 11,
+        25 => 11,
+        26 => 11,
+        27 => 11,
+        28 => 11,
         29 => lines::delay_line_len(sheet::number(r, 0), rate),
         30 => reverb(rate),
         31 => 5 * chain,
+        32 => 4,
         34 => lines::chorus_line_len(sheet::number(r, 1), rate),
-        _ => fixed(k),
+        35 => 4,
+        46 => 3,
+        _ => 0,
     }
 }
 
 fn registers_of(k: u8) -> u64
     ensures { λ r. ⌜ (r ≡ registersWith k) × (r ≤ 11) ⌝ }
 {
-    let i = k as usize;
-    if i < 47 { REGISTERS[i] } else { 0 }
+    match k {
+        9 => 1,
+        10 => 1,
+        29 => 1,
+        30 => 10,
+        34 => 1,
+        46 => 1,
+        _ => 0,
+    }
 }
 
 // A block for Mix and Mul.
@@ -271,73 +187,7 @@ fn scratch_at(k: u8, r: u8) -> usize
     if r < 2 { 0 } else { scratch_of(k) as usize }
 }
 
-// Where each record's cells begin, with one entry more for how many there are; returns that.
-pub fn cells_from(
-    sheet: &[u8],
-    count: usize,
-    kinds: &[u8],
-    firsts: &[usize],
-    nexts: &[usize],
-    acts: &[u8],
-    from: &mut [usize],
-) -> usize
-    requires { ⌜ Passed (now sheet) count × Table (kind (now sheet)) count (now kinds) × Table (first (now sheet)) count (now firsts) × Table (next (now sheet)) count (now nexts) × Table (λ j. roleCode (role (now sheet) j)) count (now acts) × (count < length (now from)) ⌝ }
-    ensures { λ r. ⌜ Table (cellsFrom (now (sheet .entry))) (count + 1) (now (from .exit)) × (r ≡ cellsFrom (now (sheet .entry)) count) × (r ≤ 1474560000) ⌝ }
-{
-    let mut at = 0usize;
-    let mut i = 0usize;
-    while i < count {
-        from[i] = at;
-        at += cells_at(sheet, count, nexts, i, kinds[i], firsts[i], acts[i]);
-        i += 1;
-    }
-    from[i] = at;
-    at
-}
-
-pub fn registers_from(
-    sheet: &[u8],
-    count: usize,
-    kinds: &[u8],
-    acts: &[u8],
-    from: &mut [usize],
-) -> usize
-    requires { ⌜ Passed (now sheet) count × Table (kind (now sheet)) count (now kinds) × Table (λ j. roleCode (role (now sheet) j)) count (now acts) × (count < length (now from)) ⌝ }
-    ensures { λ r. ⌜ Table (registersFrom (now (sheet .entry))) (count + 1) (now (from .exit)) × (r ≡ registersFrom (now (sheet .entry)) count) × (r ≤ 2816) ⌝ }
-{
-    let mut at = 0usize;
-    let mut i = 0usize;
-    while i < count {
-        from[i] = at;
-        at += registers_at(kinds[i], acts[i]);
-        i += 1;
-    }
-    from[i] = at;
-    at
-}
-
-pub fn scratch_from(
-    sheet: &[u8],
-    count: usize,
-    kinds: &[u8],
-    acts: &[u8],
-    from: &mut [usize],
-) -> usize
-    requires { ⌜ Passed (now sheet) count × Table (kind (now sheet)) count (now kinds) × Table (λ j. roleCode (role (now sheet) j)) count (now acts) × (count < length (now from)) ⌝ }
-    ensures { λ r. ⌜ Table (scratchFrom (now (sheet .entry))) (count + 1) (now (from .exit)) × (r ≡ scratchFrom (now (sheet .entry)) count) × (r ≤ 65536) ⌝ }
-{
-    let mut at = 0usize;
-    let mut i = 0usize;
-    while i < count {
-        from[i] = at;
-        at += scratch_at(kinds[i], acts[i]);
-        i += 1;
-    }
-    from[i] = at;
-    at
-}
-
-// The three tables of places, and what the sheet needs of each.
+// The three tables of places, with one entry more for what the sheet needs of each.
 pub fn offsets(
     sheet: &[u8],
     count: usize,
@@ -352,9 +202,24 @@ pub fn offsets(
     requires { ⌜ Passed (now sheet) count × Table (kind (now sheet)) count (now kinds) × Table (first (now sheet)) count (now firsts) × Table (next (now sheet)) count (now nexts) × Table (λ j. roleCode (role (now sheet) j)) count (now acts) × (count < length (now places)) × (count < length (now words)) × (count < length (now blocks)) ⌝ }
     ensures { λ r. ⌜ Placed (now (sheet .entry)) count (now (places .exit)) (now (words .exit)) (now (blocks .exit)) (r .cells) (r .registers) (r .scratch) ⌝ }
 {
-    let c = cells_from(sheet, count, kinds, firsts, nexts, acts, places);
-    let r = registers_from(sheet, count, kinds, acts, words);
-    let s = scratch_from(sheet, count, kinds, acts, blocks);
+    let mut c = 0usize;
+    let mut r = 0usize;
+    let mut s = 0usize;
+    let mut i = 0usize;
+    while i < count {
+        places[i] = c;
+        words[i] = r;
+        blocks[i] = s;
+        let k = kinds[i];
+        let act = acts[i];
+        c += cells_at(sheet, count, nexts, i, k, firsts[i], act);
+        r += registers_at(k, act);
+        s += scratch_at(k, act);
+        i += 1;
+    }
+    places[i] = c;
+    words[i] = r;
+    blocks[i] = s;
     Needs {
         cells: c as u64,
         registers: r as u64,

@@ -3,7 +3,7 @@ use mathlib.Core.Path.{_≡_, refl}
 use mathlib.Core.Bool.{false}
 use mathlib.Core.List.{List, [], _∷_}
 use Prim.Native.Nat.{ℕ, zero, suc, _+_, _*_, _/_, _^_, _≤_, _<_, max, zero-le}
-use native.Mathlib.Nat.{le-refl, le-trans, zero-lt-suc}
+use native.Mathlib.Nat.{le-trans, zero-lt-suc}
 use native.Mathlib.Omega.{arith}
 use lib.ListN.{getD}
 use lib.Dec.{lit≤, lit<}
@@ -58,13 +58,14 @@ largest-scale = lit≤ tt
 abbrev pub AtTop : ℕ → ℕ → Type 0
 AtTop t a = UpTo (round binary32 false (t * 4353742) (1 * 1000000)) a 10
 
-combs-top : AtTop 1116 48588 × AtTop 1188 51723 × AtTop 1277 55598 × AtTop 1356 59037 × AtTop 1422 61911 × AtTop 1491 64915
+-- the longest tunings
+comb-top : AtTop 1491 64915
 unfolding round
-combs-top = (lit≤ tt, lit≤ tt, lit≤ tt, lit≤ tt, lit≤ tt, lit≤ tt)
+comb-top = lit≤ tt
 
-allpasses-top : AtTop 556 24207 × AtTop 441 19201 × AtTop 341 14847 × AtTop 225 9796
+allpass-top : AtTop 556 24207
 unfolding round
-allpasses-top = (lit≤ tt, lit≤ tt, lit≤ tt, lit≤ tt)
+allpass-top = lit≤ tt
 
 -- ---- the largest of a list
 abbrev most : List ℕ → ℕ
@@ -127,30 +128,10 @@ module _ (sr : ℕ) (h : sr ≤ 192000) where
       omega arith
 
   pub comb-le : (k : ℕ) → combLine k sr ≤ 6491
-  comb-le k = tuned-le (getD combTunings k 0) 1491 64915 (getD-most combTunings k) (lit≤ tt) (combs-top .5)
+  comb-le k = tuned-le (getD combTunings k 0) 1491 64915 (getD-most combTunings k) (lit≤ tt) comb-top
 
   pub allpass-le : (k : ℕ) → allpassLine k sr ≤ 2420
-  allpass-le k = tuned-le (getD allpassTunings k 0) 556 24207 (getD-most allpassTunings k) (lit≤ tt) (allpasses-top .0)
-
-  exactly : (t a : ℕ) → t ≤ 2 ^ 24 → AtTop t a → tunedLine t sr ≤ max (a / 10) 1
-  exactly t a k u = tuned-le t t a (le-refl t) k u
-
-  -- Freeverb's ten together
-  pub freeverb-le : combLine 0 sr + combLine 1 sr + combLine 2 sr + combLine 3 sr + combLine 4 sr + combLine 5 sr + allpassLine 0 sr + allpassLine 1 sr + allpassLine 2 sr + allpassLine 3 sr ≤ 40977
-  freeverb-le =
-      omega (
-        arith,
-        exactly 1116 48588 (lit≤ tt) (combs-top .0),
-        exactly 1188 51723 (lit≤ tt) (combs-top .1),
-        exactly 1277 55598 (lit≤ tt) (combs-top .2),
-        exactly 1356 59037 (lit≤ tt) (combs-top .3),
-        exactly 1422 61911 (lit≤ tt) (combs-top .4),
-        exactly 1491 64915 (lit≤ tt) (combs-top .5),
-        exactly 556 24207 (lit≤ tt) (allpasses-top .0),
-        exactly 441 19201 (lit≤ tt) (allpasses-top .1),
-        exactly 341 14847 (lit≤ tt) (allpasses-top .2),
-        exactly 225 9796 (lit≤ tt) (allpasses-top .3),
-      )
+  allpass-le k = tuned-le (getD allpassTunings k 0) 556 24207 (getD-most allpassTunings k) (lit≤ tt) allpass-top
 
 -- ---- the shortest
 pub delay-ge : (secs : Float) (sr : ℕ) → 1 ≤ delayLine secs sr

@@ -19,8 +19,7 @@ use Rattle.sheet.specs.Laws.{all-of}
 use Rattle.layout.specs.Built.{Role, out, silent, built, role, isBuilt}
 use Rattle.layout.specs.Needs.{cells, registers, cellsFrom, registersFrom, scratchFrom}
 use Rattle.layout.specs.Counts.{layoutOf}
-use Rattle.unit.specs.Own.{Own}
-use Rattle.unit.specs.Unit.{silence}
+use Rattle.unit.specs.Own.{Own, silence}
 use Rattle.unit.specs.State.{ownOk, recordOk, ringsOk}
 use Rattle.unit.specs.Start.{startCells, startRegisters}
 use Rattle.unit.specs.Laws.{start-cells, start-registers, start-ok}
@@ -96,12 +95,6 @@ brought-cells s i = if-built (isBuilt (role s i)) (startCells s i) _ (λ e. star
 
 pub brought-registers : (s : List ℕ) (i : ℕ) → length (broughtRegisters s i) ≡ registers s i
 brought-registers s i = if-built (isBuilt (role s i)) (startRegisters s i) _ (λ e. start-registers s i (is-built (role s i) e))
-
-pub started-cells : (s : List ℕ) (i : ℕ) → length (startedCells s i) ≡ cellsFrom s i
-started-cells s i = joined-length (broughtCells s) (cells s) i (λ j l. brought-cells s j)
-
-pub started-registers : (s : List ℕ) (i : ℕ) → length (startedRegisters s i) ≡ registersFrom s i
-started-registers s i = joined-length (broughtRegisters s) (registers s) i (λ j l. brought-registers s j)
 
 -- ---- what an accepted build leaves is valid
 module _ (s : List ℕ) where

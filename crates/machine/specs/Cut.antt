@@ -14,7 +14,7 @@ use Rattle.tree.specs.Comm.{M, ret, bind}
 use Rattle.control.specs.Moves.{pitchMoved, bendMoved}
 use Rattle.sheet.specs.Record.{countOf}
 use Rattle.layout.specs.Needs.{scratchFrom}
-use Rattle.unit.specs.Unit.{silence}
+use Rattle.unit.specs.Own.{silence}
 use Rattle.machine.specs.Machine.{State, state, roomCheck, fillCheck, samples, Answered, cleared, rested, fillOf, scaled, cutoffOf, Call, fill, pitch, bend, cutoff, call, machine}
 use Rattle.machine.specs.Samples.{samples-add, withScratch, samples-with-scratch}
 

@@ -22,8 +22,8 @@ use Rattle.sheet.specs.Laws.{both}
 use Rattle.layout.specs.Built.{role, isBuilt, after}
 use Rattle.layout.specs.Counts.{layoutOf}
 use Rattle.layout.specs.Needs.{cellsFrom, registersFrom, scratchFrom}
-use Rattle.unit.specs.Own.{Own}
-use Rattle.unit.specs.Unit.{silence, unitOf}
+use Rattle.unit.specs.Own.{Own, silence}
+use Rattle.unit.specs.Unit.{unitOf}
 use Rattle.unit.specs.Voice.{voice, entered}
 use Rattle.machine.specs.Machine.{State, roomOk, soundOk, roomCheck, fillCheck, samples, Answered, cleared, rested, fillOf, isFilter, scaled, Call, fill, call, machine}
 use Rattle.machine.specs.Samples.{block, block-samples, samples-length, samples-position, samples-scratch}

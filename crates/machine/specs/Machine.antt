@@ -1,8 +1,8 @@
 -- The sample machine of document 01: it knows no blocks. It keeps the sheet, and controls, cells, registers and scratch of its own; it is fed calls alone.
-use mathlib.Core.Bool.{Bool, true, cond, _&&_}
+use mathlib.Core.Bool.{Bool, cond, _&&_}
 use mathlib.Core.List.{List, [], _∷_, _++_}
 use Prim.Native.Nat.{ℕ, zero, suc, _+_, _^_}
-use lib.Dec.{eqb, leb, ltb}
+use lib.Dec.{eqb, leb}
 use lib.ListN.{length, drop, set, replicate}
 use lib.Ieee.{Float, nan}
 use Rattle.tree.specs.Comm.{M, ret, bind}
@@ -12,7 +12,7 @@ use Rattle.sheet.specs.Record.{countOf, kind}
 use Rattle.sheet.specs.Checks.{check, lowest, checkOf}
 use Rattle.layout.specs.Built.{role, isBuilt}
 use Rattle.layout.specs.Needs.{cellsFrom, registersFrom, scratchFrom}
-use Rattle.unit.specs.Unit.{silence}
+use Rattle.unit.specs.Own.{silence}
 use Rattle.unit.specs.Voice.{rootSample}
 use Rattle.unit.specs.State.{ringsOk}
 

@@ -11,8 +11,7 @@ use Rattle.block.specs.Patch.{Valid, src, source, src-is}
 use Rattle.control.specs.declared.Controls.{Controls}
 use Rattle.control.specs.Moves.{moved, risen, following}
 use Rattle.layout.specs.Built.{after}
-use Rattle.unit.specs.Own.{Own}
-use Rattle.unit.specs.Unit.{silence}
+use Rattle.unit.specs.Own.{Own, silence}
 use Rattle.unit.specs.Voice.{voice, rootSample}
 use Rattle.machine.specs.Machine.{State, state, sample, samples}
 

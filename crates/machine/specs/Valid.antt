@@ -3,7 +3,7 @@
 use mathlib.Core.Path.{_≡_, refl, sym, subst, _∙_}
 use mathlib.Core.Bool.{Bool, true, false, cond, _&&_}
 use mathlib.Core.List.{List, [], _∷_, _++_}
-use Prim.Native.Nat.{ℕ, zero, suc, _+_, _-_, _*_, _^_, _≤_, _<_}
+use Prim.Native.Nat.{ℕ, zero, suc, _+_, _-_, _*_, _^_, _≤_}
 use native.Mathlib.Numerals.{add-one}
 use native.Mathlib.Omega.{arith}
 use native.Mathlib.Decide.{ℕ-discrete}
@@ -11,9 +11,8 @@ use borrow.Author.Tests.{leb-true, le-leb, ne-eqb}
 use lib.Dec.{leb}
 use lib.ListN.{length, replicate}
 use lib.Ieee.{Float, nan}
-use Rattle.tree.specs.Flat.{Fills, Fits, own, put, put-lengths, own-put-other}
+use Rattle.tree.specs.Flat.{Fits, own, put, put-lengths, own-put-other}
 use Rattle.block.specs.Patch.{Valid, All, blk-all}
-use Rattle.control.specs.declared.Controls.{Controls}
 use Rattle.control.specs.Moves.{leftFor, moved, pitchMoved, bendMoved}
 use Rattle.sheet.specs.Record.{countOf, rateOf, optionOf, numberOf, recordAt, kind}
 use Rattle.sheet.specs.Checks.{all, checkOf}
@@ -22,8 +21,7 @@ use Rattle.lines.specs.Lines.{delayLine, chorusLine}
 use Rattle.layout.specs.Built.{role, isBuilt}
 use Rattle.layout.specs.Needs.{needOf, voicesOf, noiseCells, reverbCells, chainLength, cells, cellsFrom, registersFrom}
 use Rattle.layout.specs.Counts.{layoutOf, rows-of, cellRows, cells-with, cells-within, registers-within}
-use Rattle.unit.specs.Own.{Own}
-use Rattle.unit.specs.Unit.{silence, unitOf}
+use Rattle.unit.specs.Own.{Own, silence}
 use Rattle.unit.specs.Voice.{voice}
 use Rattle.unit.specs.State.{ownOk, recordOk, ringsOk}
 use Rattle.unit.specs.Sound.{OwnSound, UnitsKeep, units-keep, voice-valid}

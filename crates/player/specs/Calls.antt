@@ -12,11 +12,11 @@ use borrow.Author.Tests.{ne-eqb, leb-true, le-leb, lt-leb}
 use Rattle.control.specs.declared.Controls.{Controls}
 use Rattle.control.specs.Moves.{leftFor}
 use Rattle.sheet.specs.Record.{countOf, first, next}
-use Rattle.sheet.specs.Checks.{checkOf, check, lowest}
+use Rattle.sheet.specs.Checks.{checkOf, lowest}
 use Rattle.layout.specs.Built.{role, begin, after}
 use Rattle.layout.specs.Needs.{cellsFrom, registersFrom, scratchFrom}
 use Rattle.layout.specs.Tables.{Table, Passed, roleCode}
-use Rattle.unit.specs.Unit.{silence}
+use Rattle.unit.specs.Own.{silence}
 use Rattle.unit.specs.State.{ringsOk}
 use Rattle.walk.specs.Walk.{voiced, Sound}
 use Rattle.machine.specs.Machine.{State, state, soundOk, roomCheck, fillCheck, samples, Answered, cleared, fillOf, scaled}

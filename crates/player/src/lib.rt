@@ -6,7 +6,7 @@ ghost use lib.ListN.{length};
 ghost use Rattle.control.specs.Moves.{pitchMoved, bendMoved, leftFor};
 ghost use Rattle.sheet.specs.Record.{countOf};
 ghost use Rattle.sheet.specs.Checks.{checkOf};
-ghost use Rattle.sheet.specs.Links.{Tables};
+ghost use Rattle.sheet.specs.Links.{Tables, Rows};
 ghost use Rattle.layout.specs.Needs.{cellsFrom, registersFrom, scratchFrom};
 ghost use Rattle.machine.specs.Machine.{soundOk, roomCheck};
 ghost use Rattle.streaming.specs.Run.{Set, Blocked};
@@ -30,22 +30,27 @@ fn counted(sheet: &[u8], kinds: &[u8], firsts: &[usize], nexts: &[usize]) -> lay
     ensures { λ r. ⌜ (r .cells ≡ cellsFrom (now (sheet .entry)) (countOf (now (sheet .entry)))) × (r .registers ≡ registersFrom (now (sheet .entry)) (countOf (now (sheet .entry)))) × (r .scratch ≡ scratchFrom (now (sheet .entry)) (countOf (now (sheet .entry)))) ⌝ }
 {
     let count = sheet::count(sheet);
+    let mut lasts = [0u8; 256];
     let mut acts = [0u8; 256];
     let mut begins = [0usize; 256];
     let mut afters = [0usize; 256];
+    let mut places = [0usize; 257];
+    let mut words = [0usize; 257];
+    let mut blocks = [0usize; 257];
+    // The passes of the plan are lent the tables that are set after it.
     layout::built::plan(
         sheet,
         count,
         kinds,
         firsts,
         nexts,
+        &mut places,
+        &mut lasts,
+        &mut words,
         &mut acts,
         &mut begins,
         &mut afters,
     );
-    let mut places = [0usize; 257];
-    let mut words = [0usize; 257];
-    let mut blocks = [0usize; 257];
     layout::needs::offsets(
         sheet,
         count,
@@ -101,6 +106,7 @@ fn prepare(
     kinds: &mut [u8],
     firsts: &mut [usize],
     nexts: &mut [usize],
+    lasts: &mut [u8],
     acts: &mut [u8],
     begins: &mut [usize],
     afters: &mut [usize],
@@ -108,7 +114,7 @@ fn prepare(
     words: &mut [usize],
     blocks: &mut [usize],
 ) -> Ready
-    requires { ⌜ (256 ≤ length (now kinds)) × (256 ≤ length (now firsts)) × (256 ≤ length (now nexts)) × (256 ≤ length (now acts)) × (256 ≤ length (now begins)) × (256 ≤ length (now afters)) × (257 ≤ length (now places)) × (257 ≤ length (now words)) × (257 ≤ length (now blocks)) ⌝ }
+    requires { ⌜ Rows (now sheet) (length (now kinds)) × (length (now kinds) ≤ length (now firsts)) × (length (now kinds) ≤ length (now nexts)) × (length (now kinds) ≤ length (now lasts)) × (length (now kinds) ≤ length (now acts)) × (length (now kinds) ≤ length (now begins)) × (length (now kinds) ≤ length (now afters)) × (length (now kinds) < length (now places)) × (length (now kinds) < length (now words)) × (length (now kinds) < length (now blocks)) ⌝ }
     ensures { λ r. ⌜ Prepared (now (sheet .entry)) cells regs scr (now (firsts .exit)) (now (nexts .exit)) (now (acts .exit)) (now (begins .exit)) (now (afters .exit)) (now (places .exit)) (now (words .exit)) (now (blocks .exit)) (r .refusal) (r .count) (r .scratch) ⌝ }
 {
     let refusal = sheet::check(sheet, kinds, firsts, nexts);
@@ -120,7 +126,20 @@ fn prepare(
         };
     }
     let count = sheet::count(sheet);
-    layout::built::plan(sheet, count, kinds, firsts, nexts, acts, begins, afters);
+    // The passes of the plan are lent the tables that are set after it.
+    layout::built::plan(
+        sheet,
+        count,
+        kinds,
+        firsts,
+        nexts,
+        places,
+        lasts,
+        words,
+        acts,
+        begins,
+        afters,
+    );
     let n = layout::needs::offsets(
         sheet,
         count,
@@ -312,8 +331,113 @@ fn play(
     }
 }
 
-// As many samples as out has, for the controls c.
-pub fn fill(
+// The checks by lent tables, and the samples.
+fn fill_by(
+    sheet: &[u8],
+    c: control::Controls,
+    out: &mut [f32],
+    cells: &mut [f32],
+    regs: &mut [u64],
+    scr: &mut [f32],
+    kinds: &mut [u8],
+    firsts: &mut [usize],
+    nexts: &mut [usize],
+    lasts: &mut [u8],
+    acts: &mut [u8],
+    begins: &mut [usize],
+    afters: &mut [usize],
+    places: &mut [usize],
+    words: &mut [usize],
+    blocks: &mut [usize],
+) -> Answer
+    requires { ⌜ Rows (now sheet) (length (now kinds)) × (length (now kinds) ≤ length (now firsts)) × (length (now kinds) ≤ length (now nexts)) × (length (now kinds) ≤ length (now lasts)) × (length (now kinds) ≤ length (now acts)) × (length (now kinds) ≤ length (now begins)) × (length (now kinds) ≤ length (now afters)) × (length (now kinds) < length (now places)) × (length (now kinds) < length (now words)) × (length (now kinds) < length (now blocks)) ⌝ }
+    ensures { λ r. ⌜ Fills (now (sheet .entry)) c (now (out .entry)) (now (cells .entry)) (now (regs .entry)) (now (scr .entry)) (r .answer) (r .controls) (now (out .exit)) (now (cells .exit)) (now (regs .exit)) (now (scr .exit)) ⌝ }
+{
+    let p = prepare(
+        sheet,
+        cells.len(),
+        regs.len(),
+        scr.len(),
+        kinds,
+        firsts,
+        nexts,
+        lasts,
+        acts,
+        begins,
+        afters,
+        places,
+        words,
+        blocks,
+    );
+    if p.refusal != 0 {
+        return Answer {
+            answer: p.refusal,
+            controls: c,
+        };
+    }
+    play(
+        sheet,
+        p.count,
+        p.scratch,
+        firsts,
+        nexts,
+        acts,
+        begins,
+        afters,
+        places,
+        words,
+        blocks,
+        c,
+        out,
+        cells,
+        regs,
+        scr,
+    )
+}
+
+// A sheet of at most 32 records: to zero tables for 256 would take longer than a short fill of such a voice.
+fn fill_short(
+    sheet: &[u8],
+    c: control::Controls,
+    out: &mut [f32],
+    cells: &mut [f32],
+    regs: &mut [u64],
+    scr: &mut [f32],
+) -> Answer
+    requires { ⌜ length (now sheet) ≤ 1304 ⌝ }
+    ensures { λ r. ⌜ Fills (now (sheet .entry)) c (now (out .entry)) (now (cells .entry)) (now (regs .entry)) (now (scr .entry)) (r .answer) (r .controls) (now (out .exit)) (now (cells .exit)) (now (regs .exit)) (now (scr .exit)) ⌝ }
+{
+    let mut kinds = [0u8; 32];
+    let mut firsts = [0usize; 32];
+    let mut nexts = [0usize; 32];
+    let mut lasts = [0u8; 32];
+    let mut acts = [0u8; 32];
+    let mut begins = [0usize; 32];
+    let mut afters = [0usize; 32];
+    let mut places = [0usize; 33];
+    let mut words = [0usize; 33];
+    let mut blocks = [0usize; 33];
+    fill_by(
+        sheet,
+        c,
+        out,
+        cells,
+        regs,
+        scr,
+        &mut kinds,
+        &mut firsts,
+        &mut nexts,
+        &mut lasts,
+        &mut acts,
+        &mut begins,
+        &mut afters,
+        &mut places,
+        &mut words,
+        &mut blocks,
+    )
+}
+
+fn fill_any(
     sheet: &[u8],
     c: control::Controls,
     out: &mut [f32],
@@ -326,51 +450,48 @@ pub fn fill(
     let mut kinds = [0u8; 256];
     let mut firsts = [0usize; 256];
     let mut nexts = [0usize; 256];
+    let mut lasts = [0u8; 256];
     let mut acts = [0u8; 256];
     let mut begins = [0usize; 256];
     let mut afters = [0usize; 256];
     let mut places = [0usize; 257];
     let mut words = [0usize; 257];
     let mut blocks = [0usize; 257];
-    let p = prepare(
+    fill_by(
         sheet,
-        cells.len(),
-        regs.len(),
-        scr.len(),
+        c,
+        out,
+        cells,
+        regs,
+        scr,
         &mut kinds,
         &mut firsts,
         &mut nexts,
+        &mut lasts,
         &mut acts,
         &mut begins,
         &mut afters,
         &mut places,
         &mut words,
         &mut blocks,
-    );
-    if p.refusal != 0 {
-        return Answer {
-            answer: p.refusal,
-            controls: c,
-        };
-    }
-    play(
-        sheet,
-        p.count,
-        p.scratch,
-        &firsts,
-        &nexts,
-        &acts,
-        &begins,
-        &afters,
-        &places,
-        &words,
-        &blocks,
-        c,
-        out,
-        cells,
-        regs,
-        scr,
     )
+}
+
+// As many samples as out has, for the controls c.
+pub fn fill(
+    sheet: &[u8],
+    c: control::Controls,
+    out: &mut [f32],
+    cells: &mut [f32],
+    regs: &mut [u64],
+    scr: &mut [f32],
+) -> Answer
+    ensures { λ r. ⌜ Fills (now (sheet .entry)) c (now (out .entry)) (now (cells .entry)) (now (regs .entry)) (now (scr .entry)) (r .answer) (r .controls) (now (out .exit)) (now (cells .exit)) (now (regs .exit)) (now (scr .exit)) ⌝ }
+{
+    if sheet.len() <= 1304 {
+        return fill_short(sheet, c, out, cells, regs, scr);
+    }
+    fill_any(sheet, c, out, cells, regs, scr)
 }
 
 // ---- moves
@@ -388,39 +509,123 @@ pub fn bend(c: control::Controls, x: f32) -> control::Controls
     control::set_bend(c, x)
 }
 
-// Every filter's cutoff is multiplied by x from the next sample on.
-pub fn cutoff(sheet: &[u8], x: f32, cells: &mut [f32], regs: &[u64], scr: &[f32]) -> u8
+fn cutoff_by(
+    sheet: &[u8],
+    x: f32,
+    cells: &mut [f32],
+    regs: &[u64],
+    scr: &[f32],
+    kinds: &mut [u8],
+    firsts: &mut [usize],
+    nexts: &mut [usize],
+    lasts: &mut [u8],
+    acts: &mut [u8],
+    begins: &mut [usize],
+    afters: &mut [usize],
+    places: &mut [usize],
+    words: &mut [usize],
+    blocks: &mut [usize],
+) -> u8
+    requires { ⌜ Rows (now sheet) (length (now kinds)) × (length (now kinds) ≤ length (now firsts)) × (length (now kinds) ≤ length (now nexts)) × (length (now kinds) ≤ length (now lasts)) × (length (now kinds) ≤ length (now acts)) × (length (now kinds) ≤ length (now begins)) × (length (now kinds) ≤ length (now afters)) × (length (now kinds) < length (now places)) × (length (now kinds) < length (now words)) × (length (now kinds) < length (now blocks)) ⌝ }
     ensures { λ r. ⌜ Cuts (now (sheet .entry)) x (now (cells .entry)) (length (now (regs .entry))) (length (now (scr .entry))) r (now (cells .exit)) ⌝ }
 {
-    let mut kinds = [0u8; 256];
-    let mut firsts = [0usize; 256];
-    let mut nexts = [0usize; 256];
-    let mut acts = [0u8; 256];
-    let mut begins = [0usize; 256];
-    let mut afters = [0usize; 256];
-    let mut places = [0usize; 257];
-    let mut words = [0usize; 257];
-    let mut blocks = [0usize; 257];
     let p = prepare(
         sheet,
         cells.len(),
         regs.len(),
         scr.len(),
+        kinds,
+        firsts,
+        nexts,
+        lasts,
+        acts,
+        begins,
+        afters,
+        places,
+        words,
+        blocks,
+    );
+    if p.refusal != 0 {
+        return p.refusal;
+    }
+    state::set_cutoff(sheet, p.count, acts, places, x, cells);
+    0
+}
+
+// A sheet of at most 32 records.
+fn cutoff_short(sheet: &[u8], x: f32, cells: &mut [f32], regs: &[u64], scr: &[f32]) -> u8
+    requires { ⌜ length (now sheet) ≤ 1304 ⌝ }
+    ensures { λ r. ⌜ Cuts (now (sheet .entry)) x (now (cells .entry)) (length (now (regs .entry))) (length (now (scr .entry))) r (now (cells .exit)) ⌝ }
+{
+    let mut kinds = [0u8; 32];
+    let mut firsts = [0usize; 32];
+    let mut nexts = [0usize; 32];
+    let mut lasts = [0u8; 32];
+    let mut acts = [0u8; 32];
+    let mut begins = [0usize; 32];
+    let mut afters = [0usize; 32];
+    let mut places = [0usize; 33];
+    let mut words = [0usize; 33];
+    let mut blocks = [0usize; 33];
+    cutoff_by(
+        sheet,
+        x,
+        cells,
+        regs,
+        scr,
         &mut kinds,
         &mut firsts,
         &mut nexts,
+        &mut lasts,
         &mut acts,
         &mut begins,
         &mut afters,
         &mut places,
         &mut words,
         &mut blocks,
-    );
-    if p.refusal != 0 {
-        return p.refusal;
+    )
+}
+
+fn cutoff_any(sheet: &[u8], x: f32, cells: &mut [f32], regs: &[u64], scr: &[f32]) -> u8
+    ensures { λ r. ⌜ Cuts (now (sheet .entry)) x (now (cells .entry)) (length (now (regs .entry))) (length (now (scr .entry))) r (now (cells .exit)) ⌝ }
+{
+    let mut kinds = [0u8; 256];
+    let mut firsts = [0usize; 256];
+    let mut nexts = [0usize; 256];
+    let mut lasts = [0u8; 256];
+    let mut acts = [0u8; 256];
+    let mut begins = [0usize; 256];
+    let mut afters = [0usize; 256];
+    let mut places = [0usize; 257];
+    let mut words = [0usize; 257];
+    let mut blocks = [0usize; 257];
+    cutoff_by(
+        sheet,
+        x,
+        cells,
+        regs,
+        scr,
+        &mut kinds,
+        &mut firsts,
+        &mut nexts,
+        &mut lasts,
+        &mut acts,
+        &mut begins,
+        &mut afters,
+        &mut places,
+        &mut words,
+        &mut blocks,
+    )
+}
+
+// Every filter's cutoff is multiplied by x from the next sample on.
+pub fn cutoff(sheet: &[u8], x: f32, cells: &mut [f32], regs: &[u64], scr: &[f32]) -> u8
+    ensures { λ r. ⌜ Cuts (now (sheet .entry)) x (now (cells .entry)) (length (now (regs .entry))) (length (now (scr .entry))) r (now (cells .exit)) ⌝ }
+{
+    if sheet.len() <= 1304 {
+        return cutoff_short(sheet, x, cells, regs, scr);
     }
-    state::set_cutoff(sheet, p.count, &acts, &places, x, cells);
-    0
+    cutoff_any(sheet, x, cells, regs, scr)
 }
 
 // ---- build
@@ -480,6 +685,7 @@ pub fn build(
     let mut kinds = [0u8; 256];
     let mut firsts = [0usize; 256];
     let mut nexts = [0usize; 256];
+    let mut lasts = [0u8; 256];
     let mut acts = [0u8; 256];
     let mut begins = [0usize; 256];
     let mut afters = [0usize; 256];
@@ -494,6 +700,7 @@ pub fn build(
         &mut kinds,
         &mut firsts,
         &mut nexts,
+        &mut lasts,
         &mut acts,
         &mut begins,
         &mut afters,

@@ -1,18 +1,12 @@
 -- Compress in two passes is Compress. Assumes nothing.
 use mathlib.Core.Path.{_≡_, refl, sym, ap, _∙_}
-use mathlib.Core.List.{List, [], _∷_, _++_}
+use mathlib.Core.List.{List}
 use Prim.Native.Nat.{ℕ, zero, suc, _<_}
-use native.Mathlib.Omega.{arith}
 use lib.Ieee.{Float, nan}
-use Rattle.tree.specs.Block.{tab}
+use Rattle.tree.specs.Block.{tab-eq}
 use Rattle.block.specs.Iterate.{at, after, given, sampleAt, given-at}
-use Rattle.proc.specs.Effects.{compressLevel, compressGain, compressOf}
+use Rattle.proc.specs.Effects.{compressGain, compressOf}
 use Rattle.proc_block.specs.Steps.{compressStep, levelStep, levelGainStep}
-
-tab-same : {A : Type 0} (n : ℕ) (f g : ℕ → A) → ((k : ℕ) → k < n → f k ≡ g k) → tab n f ≡ tab n g
-unfolding tab
-tab-same zero f g e = refl
-tab-same (suc n) f g e = λ i. tab-same n f g (λ k h. e k (omega arith)) i ++ (e n (omega arith) i ∷ [])
 
 module _ (xs : List Float) (attack release threshold ratio makeup env : Float) where
   abbrev whole : ℕ → Float → Float × Float
@@ -32,4 +26,4 @@ module _ (xs : List Float) (attack release threshold ratio makeup env : Float) w
 
   pub given-levels : (n : ℕ) → given whole env n ≡ given (levelGainStep xs (given first env n) makeup) tt n
   unfolding given
-  given-levels n = tab-same n (sampleAt whole env) (sampleAt (levelGainStep xs (given first env n) makeup) tt) (level-is n)
+  given-levels n = tab-eq n (sampleAt whole env) (sampleAt (levelGainStep xs (given first env n) makeup) tt) (level-is n)

@@ -7,22 +7,24 @@ use Prim.Native.Nat.{ℕ, _+_, _-_, _*_, _/_, _≤_, _<_}
 use native.Mathlib.Omega.{arith}
 use native.Mathlib.Decide.{ℕ-discrete}
 use native.Mathlib.Nat.{mul-div-right}
-use borrow.Author.Tests.{ltb-true, eqb-true, le-ltb, lt-ltb, ne-eqb}
+use borrow.Author.Tests.{ltb-true, le-ltb, lt-ltb, ne-eqb}
 use lib.Dec.{eqb, ltb}
 use lib.ListN.{length, take, length-drop}
 use lib.Ieee.{Float}
 use Rattle.sheet.specs.Record.{rateOf, recordAt, kind}
-use Rattle.sheet.specs.Checks.{all, sum}
+use Rattle.sheet.specs.Checks.{sum}
 use Rattle.sheet.specs.Laws.{rest, all-at}
 use Rattle.layout.specs.Good.{good}
-use Rattle.layout.specs.Needs.{needOf, chainLength, cellsBy, registersBy, reverbCells}
-use Rattle.layout.specs.Counts.{cellRows, cellsWith, registersWith, cells-with, registers-with, cells-other}
+use Rattle.layout.specs.Needs.{needOf, chainLength}
+use Rattle.layout.specs.Counts.{cellsWith, registersWith, cells-with, registers-with}
 use Rattle.bank_block.specs.Banks.{lineFrom, Placed}
-use Rattle.unit.specs.Own.{Own, word}
+use Rattle.block.specs.Iterate.{word}
+use Rattle.unit.specs.Own.{Own}
 use Rattle.unit.specs.Processors.{processorUnit, reverbLines}
 use Rattle.unit.specs.Unit.{kindUnit}
 use Rattle.unit.specs.State.{placeOk, placesOk, phaseOk, ownOk}
 use Rattle.unit.specs.Block.{Lent}
+use Rattle.unit.specs.Laws.{filter-need}
 
 -- 29 Delay and 34 Chorus have a line and a place in it, 30 Reverb ten, with a store for each comb; 35 Compress has four cells
 pub record Fits (sr k : ℕ) (cs : List Float) (rs : List ℕ) : Type 0 where
@@ -85,17 +87,10 @@ module _ {s : List ℕ} {i k nc nr : ℕ} (a : Lent s i k nc nr) where
       rw (er, es, ← a .kind-is, le-ltb k 21 l, lt-ltb k 41 (omega arith)) (sym (modes-only (recordAt s i) (rateOf s) k (nc / 5) (chainLength s i) modes-of))
 
 -- ---- lengths and places
--- the filters' rows are the same
-filter-row : (k : ℕ) → 22 ≤ k → k ≤ 28 → needOf k (cellRows 0 0 0 0 0 0) ≡ 11
-unfolding all needOf
-filter-row k l h =
-    let e : 22 + (k - 22) ≡ k = omega arith in
-    ap (λ k. needOf k (cellRows 0 0 0 0 0 0)) (sym e) ∙ eqb-true _ _ (all-at (λ j. eqb (needOf (22 + j) (cellRows 0 0 0 0 0 0)) 11) 7 refl (k - 22) (omega arith))
-
 pub fits-value : {s : List ℕ} {i k nr : ℕ} {cs : List Float} → Lent s i k (length cs) nr → FitsValue k cs
 unfolding needOf
 fits-value {s} {i} {k} {nr} {cs} a = record {
-  filter = λ l h. cells-of a ∙ sym (cells-other k (λ e. omega arith) (λ e. omega arith) (λ e. omega arith) (λ e. omega arith) (λ e. omega arith) (λ e. omega arith) _ _ _ _ _ _) ∙ filter-row k l h;
+  filter = λ l h. a .cells ∙ filter-need s i (omega (arith, a .kind-is)) (omega (arith, a .kind-is));
   drive = λ e. cells-at a 32 e;
 }
 

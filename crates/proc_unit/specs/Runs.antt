@@ -1,11 +1,11 @@
 -- Each kind's unit over a block, from what the kernel of its kind leaves: how the kernel's state lies in what the record owns.
 use mathlib.Core.Path.{_≡_, refl, sym, ap, _∙_}
 use mathlib.Core.List.{List, [], _∷_}
-use Prim.Native.Nat.{ℕ, _+_, _<_}
-use lib.ListN.{length, getD, set, length-set}
+use Prim.Native.Nat.{ℕ, _<_}
+use lib.ListN.{length, set, length-set}
 use lib.Ieee.{Float, nan}
 use Rattle.tree.specs.Block.{tab}
-use Rattle.block.specs.Iterate.{at, given, after, part-while}
+use Rattle.block.specs.Iterate.{at, given, after, part-while, word}
 use Rattle.control.specs.declared.Controls.{Controls}
 use Rattle.dsl.specs.declared.DriveShape.{DriveShape}
 use Rattle.render.specs.declared.FilterKind.{FilterKind}
@@ -15,10 +15,10 @@ use Rattle.proc.specs.Effects.{tremoloOf, delayOf, nextPlace, chorusRead, choru
 use Rattle.proc_block.specs.Steps.{gainStep, filterStep, driveStepAt, drivePlainStep, tremoloStep, compressStep}
 use Rattle.line_block.specs.Steps.{delayStep, chorusStep}
 use Rattle.bank_block.specs.Banks.{modalStep, reverbOf, reverbStep}
-use Rattle.unit.specs.Own.{Own, Ugen, word}
+use Rattle.unit.specs.Own.{Own, Ugen}
 use Rattle.unit.specs.Processors.{gainUnit, filterUnit, filterIn, filterCells, delayUnit, chorusUnit, antialiasedUnit, driveIn, driveCells, plainUnit, tremoloUnit, compressUnit, modalUnit, reverbUnit, reverbLines}
-use Rattle.unit.specs.Block.{Ran, steps, moment, moment-position, ran-part, ran-stateless}
-use Rattle.proc_unit.specs.Lists.{by-length}
+use Rattle.unit.specs.Block.{Ran, steps, moment-position, ran-part, ran-stateless}
+use Rattle.tree.specs.Lists.{written}
 
 -- a kernel's state of which something holds that its steps keep
 pub ran-while : {S : Type 0} (φ : S → Own) (Inv : S → Type 0) (g : ℕ → S → Float × S) (f : Ugen) (c : Controls) (bufs : List (List Float)) {xs cs : List Float} {rs : List ℕ} {ys ds : List Float} {ss : List ℕ} (s : S) → Inv s
@@ -55,14 +55,14 @@ module _ (c : Controls) {xs ys : List Float} where
       → ys ≡ given (filterStep xs v kind q sr) s (length xs) → ds ≡ filterCells (after (filterStep xs v kind q sr) s (length xs)) → Ran (filterUnit kind q sr) c (v ∷ []) xs cs rs ys ds rs
   unfolding filterUnit filterStep tab
   filter-ran kind q sr v {cs} {rs = rs} s l e y z =
-      let own : cs ≡ filterCells s = by-length nan 11 cs l ∙ ap filterCells (sym e) in
+      let own : cs ≡ filterCells s = written nan 11 cs l ∙ ap filterCells (sym e) in
       ran-part (λ f. (filterCells f, rs)) (filterStep xs v kind q sr) (filterUnit kind q sr) c (v ∷ []) s (λ k h u. refl) (λ i. (own i, rs)) y (λ i. (z i, rs))
 
   pub antialiased-ran : (shape : DriveShape) (v : List Float) {cs ds : List Float} {rs : List ℕ} (s : Drive) → length cs ≡ 4 → s ≡ driveIn cs
       → ys ≡ given (driveStepAt xs v shape) s (length xs) → ds ≡ driveCells (after (driveStepAt xs v shape) s (length xs)) → Ran (antialiasedUnit shape) c (v ∷ []) xs cs rs ys ds rs
   unfolding antialiasedUnit driveStepAt tab
   antialiased-ran shape v {cs} {rs = rs} s l e y z =
-      let own : cs ≡ driveCells s = by-length nan 4 cs l ∙ ap driveCells (sym e) in
+      let own : cs ≡ driveCells s = written nan 4 cs l ∙ ap driveCells (sym e) in
       ran-part (λ d. (driveCells d, rs)) (driveStepAt xs v shape) (antialiasedUnit shape) c (v ∷ []) s (λ k h u. refl) (λ i. (own i, rs)) y (λ i. (z i, rs))
 
   pub compress-ran : (threshold ratio : Float) {cs : List Float} {rs : List ℕ} (env : Float) → length cs ≡ 4
@@ -70,7 +70,7 @@ module _ (c : Controls) {xs ys : List Float} where
       → Ran (compressUnit threshold ratio) c [] xs cs rs ys (set cs 0 env) rs
   unfolding compressUnit compressStep tab
   compress-ran threshold ratio {cs} {rs} env l y z =
-      let own : cs ≡ at cs 0 ∷ at cs 1 ∷ at cs 2 ∷ at cs 3 ∷ [] = by-length nan 4 cs l in
+      let own : cs ≡ at cs 0 ∷ at cs 1 ∷ at cs 2 ∷ at cs 3 ∷ [] = written nan 4 cs l in
       let left : set cs 0 env ≡ env ∷ at cs 1 ∷ at cs 2 ∷ at cs 3 ∷ [] = ap (λ l. set l 0 env) own in
       ran-part (λ e. (e ∷ at cs 1 ∷ at cs 2 ∷ at cs 3 ∷ [], rs)) (compressStep xs (at cs 1) (at cs 2) threshold ratio (at cs 3)) (compressUnit threshold ratio) c [] (at cs 0) (λ k h u. refl) (λ i. (own i, rs)) y
       (λ i. ((left ∙ ap (λ e. e ∷ at cs 1 ∷ at cs 2 ∷ at cs 3 ∷ []) z) i, rs))
@@ -81,7 +81,7 @@ module _ (c : Controls) {xs ys : List Float} where
       → ys ≡ given g (cs, word rs 0) (length xs) → _≡_ {A = Ring} (ds, w) (after g (cs, word rs 0) (length xs)) → Ran f c [] xs cs rs ys ds (set rs 0 w)
   unfolding tab
   ring-ran f {cs} {ds} {rs} g w l e y z =
-      let own : rs ≡ word rs 0 ∷ [] = by-length 0 1 rs l in
+      let own : rs ≡ word rs 0 ∷ [] = written 0 1 rs l in
       let left : set rs 0 w ≡ w ∷ [] = ap (λ l. set l 0 w) own in
       ran-while laid (λ u. length (u .0) ≡ length cs) g f c [] (cs, word rs 0) refl e (λ i. (cs, own i)) y ((λ i. (ds, left i)) ∙ ap laid z)
 

@@ -15,7 +15,7 @@ ghost use Rattle.sheet.specs.Record.{optionOf, numberOf};
 ghost use Rattle.lines.specs.Lines.{chorusBase, chorusSwing};
 ghost use Rattle.dsp.specs.Coefficients.{feedbackOf};
 ghost use Rattle.bank_block.specs.Banks.{lineFrom, Placed};
-ghost use Rattle.unit.specs.Own.{word};
+ghost use Rattle.block.specs.Iterate.{word};
 ghost use Rattle.unit.specs.Processors.{filterIn, filterCells, filterUnit, filterKindOf, filterQ, driveIn, driveCells, driveUnit, delayUnit, reverbLines, reverbUnit, modalUnit, chorusUnit, tremoloUnit, compressUnit, processorUnit};
 ghost use Rattle.unit.specs.Unit.{kindUnit};
 ghost use Rattle.unit.specs.State.{ownOk};

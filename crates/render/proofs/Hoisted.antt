@@ -5,7 +5,7 @@ use lib.Ieee.{Float}
 use Rattle.sqrt.specs.Sqrt.{sqrtOf}
 use Rattle.render.specs.declared.FilterKind.{FilterKind}
 use Rattle.render.specs.declared.FilterKind.the-variants.{Low, High, Band, Notch, Peak, LowShelf, HighShelf}
-use Rattle.render.specs.Biquad.{gainOf, rootOf, cookbook, coeffsOf, biquadOf}
+use Rattle.render.specs.Biquad.{rootOf, cookbook, coeffsOf}
 
 cookbook-rooted : (k : FilterKind) (c α A : Float) → cookbook k c α A (rootOf k A) ≡ cookbook k c α A (sqrtOf A)
 unfolding cookbook rootOf
@@ -20,8 +20,3 @@ cookbook-rooted (HighShelf g) c α A = refl
 pub rooted : (k : FilterKind) (A fc q : Float) (sr : ℕ) → coeffsOf k A (rootOf k A) fc q sr ≡ coeffsOf k A (sqrtOf A) fc q sr
 unfolding coeffsOf
 rooted k A fc q sr = rw cookbook-rooted
-
--- with the gain and its root worked out once, the coefficients at each cutoff are the filter's
-pub hoisted : (k : FilterKind) (fc q : Float) (sr : ℕ) → coeffsOf k (gainOf k) (rootOf k (gainOf k)) fc q sr ≡ biquadOf k fc q sr
-unfolding biquadOf
-hoisted k fc q sr = rooted k (gainOf k) fc q sr

@@ -17,7 +17,7 @@ use Rattle.sheet.specs.Record.{countOf, rateOf, recordAt, kind, first, n
 use Rattle.sheet.specs.Kinds.{isNode}
 use Rattle.sheet.specs.Tree.{rootTree, depthOf}
 use Rattle.sheet.specs.Checks.{all, sum, lengthOk, headerOk, recordOk, linkOk, linksOk, onceOk, linksTo, chainOk, depthOk, lowest, checkOf}
-use Rattle.sheet.specs.Links.{at, Links, Linked, LinksIn, hitsAt, onceAt, chainAt, shapeOf, Tables, Decoded, Checked}
+use Rattle.sheet.specs.Links.{at, Links, Linked, LinksIn, hitsAt, onceAt, chainAt, shapeOf, Tables, Decoded, Rows, Checked}
 use Rattle.sheet.specs.Laws.{both, all-at, sum-some}
 use Rattle.sheet.specs.LinkLaws.{hit-not, once, forest-of, first-below, next-below}
 
@@ -35,6 +35,13 @@ sized s e =
     let b = both (leb 24 (length s) && eqb (length s) (24 + 40 * countOf s)) (leb 1 (countOf s)) (c .0) in
     let a = both (leb 24 (length s)) (eqb (length s) (24 + 40 * countOf s)) (b .0) in
     record { head = leb-true _ _ (a .0); long = eqb-true _ _ (a .1); some = leb-true _ _ (b .1); few = leb-true _ _ (c .1) }
+
+-- 256 rows are enough for any sheet, and fewer for a short one
+pub rows-most : (s : List ℕ) (n : ℕ) → 256 ≤ n → Rows s n
+rows-most s n h = record { enough = λ l f. omega arith }
+
+pub rows-short : (s : List ℕ) (n : ℕ) → length s ≤ 24 + 40 * n → Rows s n
+rows-short s n h = record { enough = λ l f. omega arith }
 
 -- ---- check 4: links climb to records below N, and past the records there is none
 module _ (s : List ℕ) (l : length s ≡ 24 + 40 * countOf s) where

@@ -38,10 +38,6 @@ pub and-comm : (a b : Bool) → (a && b) ≡ (b && a)
 and-comm true b = sym (and-true b)
 and-comm false b = sym (and-false b)
 
-pub not-true-is : (a : Bool) → (a ≡ true → ⊥) → a ≡ false
-not-true-is true h = absurd (h refl)
-not-true-is false h = refl
-
 -- two tests that pass together are one
 pub same : (a b : Bool) → (a ≡ true → b ≡ true) → (b ≡ true → a ≡ true) → a ≡ b
 same true b f g = sym (f refl)
@@ -78,11 +74,6 @@ every-same p q h (x ∷ xs) = ap₂ _&&_ (h x) (every-same p q h xs)
 pub sum-suc : (f : ℕ → ℕ) (n : ℕ) → sum f (n + 1) ≡ sum f n + f n
 unfolding sum
 sum-suc f n = rw add-one
-
-pub sum-same : (f g : ℕ → ℕ) (n : ℕ) → ((i : ℕ) → i < n → f i ≡ g i) → sum f n ≡ sum g n
-unfolding sum
-sum-same f g zero h = refl
-sum-same f g (suc n) h = ap₂ _+_ (sum-same f g n (λ i l. h i (omega arith))) (h n (omega arith))
 
 pub sum-one : (f : ℕ → ℕ) (n i : ℕ) → i < n → f i ≤ sum f n
 unfolding sum

@@ -7,11 +7,11 @@ use Prim.Native.Nat.{ℕ, zero, suc, _+_, _-_, _*_, _≤_, _<_, max}
 use native.Mathlib.Omega.{arith}
 use native.Mathlib.Decide.{ℕ-discrete, decLt}
 use lib.Dec.{eqb, leb, ltb, eqb·suc-zero}
-use lib.ListN.{length, set, length-set}
+use lib.ListN.{length, set, length-set, replicate}
 use lib.Seq.{getD-set-same, getD-set-other}
 use borrow.Author.Tests.{eq-eqb, ne-eqb, eqb-true, ltb-true, ltb-false, lt-ltb, le-ltb, le-leb, lt-leb}
 use Rattle.tree.specs.Tree.{node}
-use Rattle.tree.specs.Forest.{Forest, whole, root, whole-nil, whole-node}
+use Rattle.tree.specs.Forest.{Forest, build, whole, root, whole-nil, whole-node}
 use Rattle.sheet.specs.Kinds.{isNode, isValue}
 use Rattle.sheet.specs.Tree.{spine, depth}
 use Rattle.sheet.specs.Checks.{all, every, hit, sum, holds, lowest}
@@ -36,6 +36,12 @@ pub hits-most : (f x : ℕ → ℕ) (j i : ℕ) → sum (hitsAt f x j) i ≤ 2 *
 unfolding sum
 hits-most f x j zero = omega arith
 hits-most f x j (suc i) = omega (arith, hits-most f x j i, hit-most (f i) j, hit-most (x i) j)
+
+-- a table of counts at its start
+pub zeros : (n j : ℕ) → at (replicate n 0) j ≡ 0
+zeros zero j = refl
+zeros (suc n) zero = refl
+zeros (suc n) (suc j) = zeros n j
 
 -- one more at l, in a table of counts
 pub bump : (t : List ℕ) (l j : ℕ) → l < length t → at (set t l (at t l + 1)) j ≡ at t j + hit l j
@@ -228,6 +234,21 @@ module _ {f x : ℕ → ℕ} {n : ℕ} (l : Linked f x n) (k : ℕ → ℕ) (r j
 
   pub deep-below : isNode (k j) ≡ true → ltb (r - 1) (depthAt k f x n (f j)) ≡ true → ltb r (depthAt k f x n j) ≡ true
   deep-below e g = deep-over e (omega (arith, ltb-true (r - 1) _ g))
+
+-- nodes nest no deeper than there are records above 0
+build-depth : (p : ℕ → Bool) (f x : ℕ → ℕ) (n i : ℕ) → depth p (build f x n i) ≤ n
+unfolding depth
+build-depth p f x zero i = omega arith
+build-depth p f x (suc n) zero = omega arith
+build-depth p f x (suc n) (suc i) =
+    let a = build-depth p f x n (f (suc i)) in
+    let b = build-depth p f x n (x (suc i)) in
+    elim (p (suc i)) as (λ t. max (cond t (suc (depth p (build f x n (f (suc i))))) 0) (depth p (build f x n (x (suc i)))) ≤ suc n) [ true ↦ omega arith | false ↦ omega arith ]
+
+pub depth-most : (k f x : ℕ → ℕ) (n j : ℕ) → depthAt k f x n j ≤ n - 1
+unfolding whole
+depth-most k f x n zero = omega (arith, depth-nil k f x n)
+depth-most k f x n (suc j) = omega (arith, build-depth (λ i. isNode (k i)) f x (n - suc j) (suc j))
 
 -- record 0 is a node that no other follows
 pub root-depth : {f x : ℕ → ℕ} {n : ℕ} → Links f x n → (k : ℕ → ℕ) → isNode (k 0) ≡ true → leb (depth (λ i. isNode (k i)) (root f x n)) 16 ≡ not (ltb 15 (depthAt k f x n (f 0)))

@@ -3,7 +3,7 @@ use mathlib.Core.Path.{_≡_}
 use mathlib.Core.Bool.{Bool, _&&_, _||_}
 use mathlib.Core.List.{List, [], _∷_, map}
 use mathlib.Core.Logic.{_≢_}
-use Prim.Native.Nat.{ℕ, _+_, _<_}
+use Prim.Native.Nat.{ℕ, _+_, _*_, _≤_, _<_}
 use lib.Dec.{leb, ltb, eqb}
 use lib.ListN.{length, getD}
 use Rattle.tree.specs.Forest.{Forest, whole, root}
@@ -94,6 +94,10 @@ pub record Tables (s ks fs ns : List ℕ) : Type 0 where
 pub record Decoded (s ks fs ns : List ℕ) (r : ℕ) : Type 0 where
   pub answer : r ≡ lowest (check 3 (all (λ i. recordOk (recordAt s i)) (countOf s)) ∷ check 4 (all (linksOk s) (countOf s)) ∷ [])
   pub tables : Tables s ks fs ns
+
+-- tables of n rows have one for every record of a sheet whose length check 1 accepts
+pub record Rows (s : List ℕ) (n : ℕ) : Type 0 where
+  pub enough : length s ≡ 24 + 40 * countOf s → countOf s ≤ 256 → countOf s ≤ n
 
 -- THE ANSWER; where it is 0 the tables hold every record's kind and links, and where not, nothing is said of them
 pub record Checked (s ks fs ns : List ℕ) (r : ℕ) : Type 0 where

@@ -1,7 +1,7 @@
 // Checks 1 to 7 of document 01. One pass over the records fills tables of their kinds and links and makes checks 3
 // and 4; the others go by the tables.
 ghost use mathlib.Core.Path.{_≡_};
-ghost use mathlib.Core.Bool.{cond, _||_};
+ghost use mathlib.Core.Bool.{true, cond, _||_};
 ghost use Prim.Native.Nat.{ℕ, _+_, _-_, _*_, _≤_, _<_};
 ghost use lib.Dec.{ltb, eqb};
 ghost use lib.ListN.{length};
@@ -42,14 +42,26 @@ fn last_set(r: &[u8], k: usize, t: u8) -> u8
     }
 }
 
-// The place after the record's last number that is set. A number is read as one word, and no branch goes by what is
-// read: a loop over the numbers past those that the kind uses costs twice as much.
+// Whether the numbers from the third on are all zero, two at a time.
+fn rest_unset(r: &[u8]) -> bool
+    requires { ⌜ 40 ≤ length (now r) ⌝ }
+    ensures { λ x. ⌜ (x ≡ true → (bitsOf (now (r .entry)) 2 ≡ 0) × (bitsOf (now (r .entry)) 3 ≡ 0) × (bitsOf (now (r .entry)) 4 ≡ 0) × (bitsOf (now (r .entry)) 5 ≡ 0) × (bitsOf (now (r .entry)) 6 ≡ 0) × (bitsOf (now (r .entry)) 7 ≡ 0)) ⌝ }
+{
+    (crate::double(r, 16) == 0) & (crate::double(r, 24) == 0) & (crate::double(r, 32) == 0)
+}
+
+// The place after the record's last number that is set. Few kinds use more than two numbers, and a number is read as one
+// word: a loop over the numbers past those that the kind uses costs twice as much.
 fn last(r: &[u8]) -> u8
     requires { ⌜ 40 ≤ length (now r) ⌝ }
     ensures { λ x. ⌜ x ≡ lastOf (bitsOf (now (r .entry))) 8 ⌝ }
 {
-    let t = last_set(r, 4, last_set(r, 3, last_set(r, 2, last_set(r, 1, 0))));
-    last_set(r, 8, last_set(r, 7, last_set(r, 6, last_set(r, 5, t))))
+    let t = last_set(r, 2, last_set(r, 1, 0));
+    if rest_unset(r) {
+        return t;
+    }
+    let u = last_set(r, 5, last_set(r, 4, last_set(r, 3, t)));
+    last_set(r, 8, last_set(r, 7, last_set(r, 6, u)))
 }
 
 // 3, of one record
@@ -168,12 +180,25 @@ fn once_in(first: &[usize], next: &[usize], hits: &mut [u16]) -> bool
     all_once(hits, first.len())
 }
 
+// Of at most 32 records, so that fewer counts are zeroed.
+fn once_few(first: &[usize], next: &[usize]) -> bool
+    requires { ⌜ LinksIn (now first) (now next) ⌝ }
+    requires { ⌜ (1 ≤ length (now first)) × (length (now first) ≤ 32) ⌝ }
+    ensures { λ r. ⌜ r ≡ onceIn (now (first .entry)) (now (next .entry)) ⌝ }
+{
+    let mut hits = [0u16; 32];
+    once_in(first, next, &mut hits)
+}
+
 // 5
 fn once(first: &[usize], next: &[usize]) -> bool
     requires { ⌜ LinksIn (now first) (now next) ⌝ }
     requires { ⌜ (1 ≤ length (now first)) × (length (now first) ≤ 256) ⌝ }
     ensures { λ r. ⌜ r ≡ onceIn (now (first .entry)) (now (next .entry)) ⌝ }
 {
+    if first.len() <= 32 {
+        return once_few(first, next);
+    }
     let mut hits = [0u16; 256];
     once_in(first, next, &mut hits)
 }
@@ -286,6 +311,18 @@ fn deeper(kinds: &[u8], first: &[usize], next: &[usize], start: usize, room: usi
     false
 }
 
+// 7. Of at most 16 records no more than 16 nest.
+fn too_deep(kinds: &[u8], first: &[usize], next: &[usize]) -> bool
+    requires { ⌜ LinkedIn (now kinds) (now first) (now next) ⌝ }
+    requires { ⌜ 1 ≤ length (now first) ⌝ }
+    ensures { λ r. ⌜ r ≡ ltb 15 (depthIn (now (kinds .entry)) (now (first .entry)) (now (next .entry)) (at (now (first .entry)) 0)) ⌝ }
+{
+    if first.len() <= 16 {
+        return false;
+    }
+    deeper(kinds, first, next, first[0], 15)
+}
+
 // 5, 6 and 7, by the tables
 pub fn shape(kinds: &[u8], first: &[usize], next: &[usize]) -> u8
     requires { ⌜ LinksIn (now first) (now next) ⌝ }
@@ -294,11 +331,7 @@ pub fn shape(kinds: &[u8], first: &[usize], next: &[usize]) -> u8
 {
     if once(first, next) {
         if chains_ok(kinds, first, next) & crate::kinds::is_node(kinds[0]) {
-            if deeper(kinds, first, next, first[0], 15) {
-                7
-            } else {
-                0
-            }
+            if too_deep(kinds, first, next) { 7 } else { 0 }
         } else {
             6
         }

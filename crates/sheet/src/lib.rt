@@ -7,10 +7,10 @@ ghost use mathlib.Core.Path.{_≡_};
 ghost use Prim.Native.Nat.{_+_, _*_, _≤_, _<_};
 ghost use lib.ListN.{length};
 ghost use Rattle.sheet.specs.Bytes.{u16At, u32At, u64At};
-ghost use Rattle.sheet.specs.Record.{countOf, rateOf, lengthOf, pathOf, kindOf, optionOf, firstOf, nextOf, bitsOf, numberOf, seedOf};
+ghost use Rattle.sheet.specs.Record.{countOf, rateOf, lengthOf, pathOf, kindOf, optionOf, firstOf, nextOf, bitsOf, numberOf, seedOf, kind as recordKind};
 ghost use Rattle.sheet.specs.Value.{valueOf};
 ghost use Rattle.sheet.specs.Checks.{checkOf};
-ghost use Rattle.sheet.specs.Links.{Checked};
+ghost use Rattle.sheet.specs.Links.{Rows, Checked};
 
 fn wide(x: u8) -> u32
     ensures { λ r. ⌜ (r ≡ x) × (r < 256) ⌝ }
@@ -78,6 +78,15 @@ pub fn kind(r: &[u8]) -> u8
     ensures { λ x. ⌜ x ≡ kindOf (now (r .entry)) ⌝ }
 {
     r[0]
+}
+
+// The kind of record i.
+pub fn kind_at(sheet: &[u8], i: usize) -> u8
+    requires { ⌜ 24 + 40 * (i + 1) ≤ length (now sheet) ⌝ }
+    ensures { λ r. ⌜ r ≡ recordKind (now (sheet .entry)) i ⌝ }
+{
+    let a = 24 + 40 * i;
+    kind(&sheet[a..])
 }
 
 pub fn option(r: &[u8]) -> u8
@@ -209,7 +218,7 @@ pub fn read_value(r: &[u8]) -> Value
 // The lowest of checks 1 to 7 that applies, or 0. Where it is 0 the tables hold the kind and the links of every record;
 // after a refusal nothing is promised of them but their lengths.
 pub fn check(sheet: &[u8], kinds: &mut [u8], first: &mut [usize], next: &mut [usize]) -> u8
-    requires { ⌜ (256 ≤ length (now kinds)) × (256 ≤ length (now first)) × (256 ≤ length (now next)) ⌝ }
+    requires { ⌜ Rows (now sheet) (length (now kinds)) × (length (now kinds) ≤ length (now first)) × (length (now kinds) ≤ length (now next)) ⌝ }
     ensures { λ r. ⌜ Checked (now (sheet .entry)) (now (kinds .exit)) (now (first .exit)) (now (next .exit)) r ⌝ }
 {
     if checks::length_ok(sheet) {

@@ -3,7 +3,6 @@ use mathlib.Core.List.{List}
 use Prim.Native.Nat.{ℕ, _+_}
 use lib.Ieee.{Float}
 use Rattle.block.specs.Iterate.{at}
-use Rattle.float.specs.Single.{zero}
 use Rattle.source.specs.Oscillators.{sineOf, squareOf, sawOf, triangleOf, fmOf}
 use Rattle.source.specs.Others.{impactOf, envOf, whiteOf, pinkOf, brownOf, dustOf}
 use Rattle.source.specs.declared.Poles.{Poles}
@@ -56,9 +55,6 @@ dustStep chance decay k s = let r = dustOf (s .word) chance decay (s .y) in (r .
 
 unfoldable pub impactStep : ℕ → Float → ℕ → ℕ → Unit {0} → Float × Unit {0}
 impactStep w norm t k s = (impactOf w norm (t + k), s)
-
-unfoldable pub silentStep : ℕ → Unit {0} → Float × Unit {0}
-silentStep k s = (zero, s)
 
 unfoldable pub envStep : Float → Float → Float → Float → Float → Float → Float → ℕ → ℕ → Unit {0} → Float × Unit {0}
 envStep a d s r punch srf relStart t k u = (envOf a d s r punch srf relStart (t + k), u)

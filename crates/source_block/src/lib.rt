@@ -4,7 +4,7 @@ ghost use mathlib.Core.Path.{_≡_};
 ghost use Prim.Native.Nat.{_+_, _^_, _≤_, _<_};
 ghost use lib.ListN.{length};
 ghost use Rattle.block.specs.Iterate.{given, after};
-ghost use Rattle.source_block.specs.Steps.{sineStep, squareStep, sawStep, triangleStep, fmStep, whiteStep, pinkState, pinkStep, brownStep, dustStep, impactStep, silentStep, envStep};
+ghost use Rattle.source_block.specs.Steps.{sineStep, squareStep, sawStep, triangleStep, fmStep, whiteStep, pinkState, pinkStep, brownStep, dustStep, impactStep, envStep};
 
 pub struct Triangle {
     pub phase: f32,
@@ -187,16 +187,6 @@ fn impact_samples(out: &mut [f32], w: u64, norm: f32, t: u64)
     }
 }
 
-fn silence(out: &mut [f32])
-    ensures { λ v. ⌜ (now (out .exit) ≡ given silentStep tt (length (now (out .entry)))) ⌝ }
-{
-    let mut k: usize = 0;
-    while k < out.len() {
-        out[k] = 0.0;
-        k += 1;
-    }
-}
-
 // w and norm are `impact_width` and `impact_norm` of the sheet, worked out once. From w on there is nothing to compare.
 pub fn impact_block(out: &mut [f32], w: u64, norm: f32, t: u64)
     requires { ⌜ (t + length (now out) < 2 ^ 64) ⌝ }
@@ -205,7 +195,7 @@ pub fn impact_block(out: &mut [f32], w: u64, norm: f32, t: u64)
     if t < w {
         impact_samples(out, w, norm, t);
     } else {
-        silence(out);
+        block::fill_block(out, 0.0);
     }
 }
 

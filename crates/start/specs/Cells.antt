@@ -1,31 +1,33 @@
 -- What the start values are by kind, how many there are, and the laws of the loops that write them.
 use mathlib.Core.Path.{_≡_, refl, sym, ap, _∙_}
-use mathlib.Core.List.{List, [], _∷_, _++_, append-assoc, append-nil}
+use mathlib.Core.List.{List, [], _++_, map, append-assoc, append-nil}
+use mathlib.Core.Bool.{false, _&&_}
 use mathlib.Core.Logic.{_≢_}
-use Prim.Native.Nat.{ℕ, zero, suc, _+_, _-_, _*_, _≤_, _<_}
+use Prim.Native.Nat.{ℕ, _+_, _-_, _*_, _≤_, _<_}
 use native.Mathlib.Omega.{arith}
 use borrow.Author.Tests.{ne-eqb, lt-ltb, le-ltb}
-use lib.ListN.{length, getD, take, drop, set, replicate, length-append, length-take, length-drop, length-replicate, getD-replicate, drop-of-length-le}
-use lib.Seq.{ext-getD, take-at, take-all, length-take-le}
+use lib.Dec.{ltb}
+use lib.ListN.{length, getD, take, drop, replicate, length-append, length-take, length-drop, drop-of-length-le}
+use lib.Seq.{take-at, take-all, length-take-le}
 use lib.Ieee.{Float, nan, binary32, ofBits}
 use borrow.Rule.Slice.PartMut.{midOf, postOf, putMid, mid-len, same-len-mid}
 use Rattle.float.specs.Single.{zero as zeroF}
-use Rattle.tree.specs.Block.{tab, length-tab, getD-tab}
+use Rattle.tree.specs.Block.{tab, length-tab}
+use Rattle.tree.specs.Lists.{map-const}
 use Rattle.sheet.specs.Record.{rateOf, numberOf, recordAt, kind, next}
 use Rattle.sheet.specs.Tree.{records, spine}
 use Rattle.layout.specs.Built.{role, built}
 use Rattle.layout.specs.Good.{Good, good}
 use Rattle.layout.specs.Owners.{records-none, records-some}
-use Rattle.layout.specs.Needs.{needOf, cellsBy, registersBy}
+use Rattle.layout.specs.Needs.{cellsBy, registersBy}
 use Rattle.layout.specs.Counts.{cells-built, registers-built}
 use Rattle.layout.specs.Tables.{Table, Passed}
 use Rattle.dsp.specs.Coefficients.{modalOf}
 use Rattle.unit.specs.Start.{filterStart, atRest, modeStart, modalStart, startCells, startRegisters}
 
--- ---- a constant table
-pub tab-same : {A : Type 0} (n : ℕ) (x : A) → tab n (λ k. x) ≡ replicate n x
-tab-same n x = ext-getD x _ _ (length-tab n (λ k. x) ∙ sym (length-replicate n x))
-    (λ k h. let l : k < n = omega (arith, length-tab n (λ (k : ℕ). x)) in getD-tab n (λ k. x) k x l ∙ sym (getD-replicate n k x x l))
+-- ---- n zeros
+pub zeroed : (own : List Float) {out : List Float} {n : ℕ} → out ≡ map (λ x. zeroF) own → length own ≡ n → out ≡ replicate n zeroF
+zeroed own e h = e ∙ map-const zeroF own ∙ ap (λ n. replicate n zeroF) h
 
 -- ---- a NaN's pattern
 pub quiet-nan : ofBits binary32 0x7fc0_0000 ≡ nan
@@ -53,49 +55,28 @@ halves {A} n own xs ys f g e p q =
     back : length (midOf n (length (xs ++ drop n own) - n) (xs ++ drop n own)) ≡ n
     back = mid-len n (length (xs ++ drop n own)) (xs ++ drop n own) (omega arith) ∙ omega (arith, long)
 
--- ---- one cell
-pub one-cell : {A : Type 0} (own : List A) (v : A) → length own ≡ 1 → set own 0 v ≡ v ∷ []
-one-cell [] v e = let x : ⊥ = omega arith in absurd x
-one-cell (x ∷ []) v e = refl
-one-cell (x ∷ y ∷ zs) v e = let z : ⊥ = omega arith in absurd z
-
 -- ---- what lies from a record on is the record at least
 pub record-room : (s : List ℕ) (i : ℕ) → 24 + 40 * (i + 1) ≤ length s → 40 ≤ length (take (length s - (24 + 40 * i)) (drop (24 + 40 * i) s))
 record-room s i h = simp (length-take, length-drop) (omega arith)
 
--- ---- how many
-need-filter : (d : ℕ) → d < 7 → (s : List ℕ) (i : ℕ) → kind s i ≡ 22 + d → cellsBy s i ≡ 11
-unfolding cellsBy needOf
-need-filter zero h s i e = rw e
-need-filter (suc zero) h s i e = rw e
-need-filter (suc (suc zero)) h s i e = rw e
-need-filter (suc (suc (suc zero))) h s i e = rw e
-need-filter (suc (suc (suc (suc zero)))) h s i e = rw e
-need-filter (suc (suc (suc (suc (suc zero))))) h s i e = rw e
-need-filter (suc (suc (suc (suc (suc (suc zero)))))) h s i e = rw e
-need-filter (suc (suc (suc (suc (suc (suc (suc d))))))) h s i e = let x : ⊥ = omega arith in absurd x
-
 module _ (s : List ℕ) (i : ℕ) where
-  pub filter-need : 21 < kind s i → kind s i < 29 → cellsBy s i ≡ 11
-  filter-need l h = need-filter (kind s i - 22) (omega arith) s i (omega arith)
-
   -- ---- what they are
   pub filter-start : 21 < kind s i → kind s i < 29 → startCells s i ≡ filterStart
   unfolding startCells
   filter-start l h = let d : kind s i ≢ 6 = omega arith in rw (ne-eqb (kind s i) 6 d, lt-ltb 21 (kind s i) l, lt-ltb (kind s i) 29 h)
 
   -- the others: zeros, as many as are owned
-  pub low-start : role s i ≡ built → kind s i ≢ 6 → kind s i ≤ 21 → startCells s i ≡ replicate (cellsBy s i) zeroF
+  other-start : role s i ≡ built → kind s i ≢ 6 → ltb 21 (kind s i) && ltb (kind s i) 29 ≡ false → kind s i ≢ 31 → kind s i ≢ 32 → kind s i ≢ 35 → kind s i ≢ 46
+      → startCells s i ≡ replicate (cellsBy s i) zeroF
   unfolding startCells
-  low-start r d h = rw (ne-eqb (kind s i) 6 d, le-ltb 21 (kind s i) h) (ap (λ n. replicate n zeroF) (cells-built s i r))
+  other-start r z f a b c d =
+      rw (ne-eqb (kind s i) 6 z, f, ne-eqb (kind s i) 31 a, ne-eqb (kind s i) 32 b, ne-eqb (kind s i) 35 c, ne-eqb (kind s i) 46 d) (ap (λ n. replicate n zeroF) (cells-built s i r))
+
+  pub low-start : role s i ≡ built → kind s i ≢ 6 → kind s i ≤ 21 → startCells s i ≡ replicate (cellsBy s i) zeroF
+  low-start r d h = other-start r d (rw (le-ltb 21 (kind s i) h)) (omega arith) (omega arith) (omega arith) (omega arith)
 
   pub high-start : role s i ≡ built → 29 ≤ kind s i → kind s i ≢ 31 → kind s i ≢ 32 → kind s i ≢ 35 → kind s i ≢ 46 → startCells s i ≡ replicate (cellsBy s i) zeroF
-  unfolding startCells
-  high-start r h a b c d =
-      let z : kind s i ≢ 6 = omega arith in
-      let l : 21 < kind s i = omega arith in
-      rw (ne-eqb (kind s i) 6 z, lt-ltb 21 (kind s i) l, le-ltb (kind s i) 29 h, ne-eqb (kind s i) 31 a, ne-eqb (kind s i) 32 b, ne-eqb (kind s i) 35 c, ne-eqb (kind s i) 46 d)
-      (ap (λ n. replicate n zeroF) (cells-built s i r))
+  high-start r h = let l : 21 < kind s i = omega arith in other-start r (omega arith) (rw (lt-ltb 21 (kind s i) l, le-ltb (kind s i) 29 h))
 
   -- ---- registers
   pub other-registers : role s i ≡ built → kind s i ≢ 9 → kind s i ≢ 10 → kind s i ≢ 46 → startRegisters s i ≡ replicate (registersBy s i) 0

@@ -2,7 +2,6 @@
 ghost use mathlib.Core.Path.{_≡_};
 ghost use Prim.Native.Nat.{_*_, _≤_, _<_};
 ghost use lib.ListN.{length, replicate};
-ghost use Rattle.float.specs.Single.{zero as zeroF};
 ghost use Rattle.tree.specs.Block.{tab};
 ghost use Rattle.dsp.specs.Random.{stepped, rangeOf};
 ghost use Rattle.dsp.specs.Coefficients.{modalOf};
@@ -11,16 +10,6 @@ ghost use Rattle.sheet.specs.Tree.{records, spine};
 ghost use Rattle.layout.specs.Needs.{voicesOf};
 ghost use Rattle.layout.specs.Tables.{Table, Passed};
 ghost use Rattle.unit.specs.Start.{startPhase, detune, startRatio, superStart, filterStart, atRest, modalStart, driveStart, compressStart, randWord, randStart};
-
-pub fn zeros(own: &mut [f32])
-    ensures { λ r. ⌜ now (own .exit) ≡ replicate (length (now (own .entry))) zeroF ⌝ }
-{
-    let mut k = 0usize;
-    while k < own.len() {
-        own[k] = 0.0;
-        k += 1;
-    }
-}
 
 pub fn zero_words(own: &mut [u64])
     ensures { λ r. ⌜ now (own .exit) ≡ replicate (length (now (own .entry))) 0 ⌝ }
@@ -96,7 +85,7 @@ pub fn filter(own: &mut [f32])
     requires { ⌜ length (now own) ≡ 11 ⌝ }
     ensures { λ r. ⌜ now (own .exit) ≡ filterStart ⌝ }
 {
-    zeros(own);
+    block::fill_block(own, 0.0);
     own[0] = 1.0;
     own[1] = float::from_bits(0x7fc0_0000);
 }
@@ -105,7 +94,7 @@ pub fn drive(option: u8, own: &mut [f32])
     requires { ⌜ length (now own) ≡ 4 ⌝ }
     ensures { λ r. ⌜ now (own .exit) ≡ driveStart option ⌝ }
 {
-    zeros(own);
+    block::fill_block(own, 0.0);
     own[1] = render::drive_antideriv(0.0, dsl::drive_shape_of(option));
 }
 
@@ -116,7 +105,7 @@ pub fn compress(r: &[u8], srf: f32, own: &mut [f32])
 {
     let f = dsp::follower_coeffs(sheet::number(r, 2), sheet::number(r, 3), srf);
     let makeup = dsp::powf(10.0, sheet::number(r, 4) / 20.0);
-    zeros(own);
+    block::fill_block(own, 0.0);
     own[1] = f.at;
     own[2] = f.rt;
     own[3] = makeup;
@@ -155,7 +144,7 @@ pub fn rand(r: &[u8], own: &mut [f32])
     ensures { λ x. ⌜ now (own .exit) ≡ randStart (now (r .entry)) ⌝ }
 {
     let d = rand_draws(r);
-    zeros(own);
+    block::fill_block(own, 0.0);
     own[0] = d.prev;
     own[1] = d.next;
 }
@@ -172,7 +161,7 @@ fn mode(r: &[u8], rate: u32, own: &mut [f32])
         sheet::number(r, 2),
         rate,
     );
-    zeros(own);
+    block::fill_block(own, 0.0);
     own[0] = m.a1;
     own[1] = m.a2;
     own[2] = m.b0;

@@ -32,7 +32,7 @@ fn late_cells(
         32 => kinds::drive(sheet::option(&sheet[a..]), own),
         35 => kinds::compress(&sheet[a..], cast::u32_to_f32(sheet::rate(sheet)), own),
         46 => kinds::rand(&sheet[a..], own),
-        _ => kinds::zeros(own),
+        _ => block::fill_block(own, 0.0),
     }
 }
 
@@ -53,7 +53,7 @@ pub fn cells(
         let a = 24 + 40 * i;
         kinds::super_start(&sheet[a..], own);
     } else if k < 22 {
-        kinds::zeros(own);
+        block::fill_block(own, 0.0);
     } else if k < 29 {
         kinds::filter(own);
     } else {

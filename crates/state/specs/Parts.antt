@@ -16,7 +16,7 @@ use Rattle.layout.specs.Built.{role, built, isBuilt}
 use Rattle.layout.specs.Needs.{cells, cellsFrom}
 use Rattle.layout.specs.Counts.{sum-above, cells-some}
 use Rattle.layout.specs.Tables.{Table, roleCode, codeRole, role-code, code-built, code-unbuilt}
-use Rattle.start.specs.Cells.{filter-need}
+use Rattle.unit.specs.Laws.{filter-need}
 use Rattle.machine.specs.Machine.{isFilter, scaled}
 use Rattle.machine.specs.Build.{joined, joined-length}
 

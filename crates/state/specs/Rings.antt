@@ -12,7 +12,8 @@ use Rattle.sheet.specs.Record.{kind}
 use Rattle.sheet.specs.Checks.{all}
 use lib.Dec.{ltb}
 use lib.Ieee.{Float}
-use Rattle.unit.specs.Own.{Own, word}
+use Rattle.block.specs.Iterate.{word}
+use Rattle.unit.specs.Own.{Own}
 use Rattle.unit.specs.Processors.{reverbLines}
 use Rattle.layout.specs.Built.{role, isBuilt}
 use Rattle.layout.specs.Needs.{cells, registers, cellsFrom, registersFrom}

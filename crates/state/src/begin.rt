@@ -26,7 +26,7 @@ fn record_cells(
     if act < 2 {
         return;
     }
-    let k = super::rings::kind_at(sheet, i);
+    let k = sheet::kind_at(sheet, i);
     start::cells(sheet, count, firsts, nexts, i, k, own);
 }
 
@@ -37,7 +37,7 @@ fn record_registers(sheet: &[u8], count: usize, act: u8, key: u64, i: usize, own
     if act < 2 {
         return;
     }
-    let k = super::rings::kind_at(sheet, i);
+    let k = sheet::kind_at(sheet, i);
     start::registers(sheet, i, k, key, own);
 }
 

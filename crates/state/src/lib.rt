@@ -12,7 +12,7 @@ ghost use Rattle.sheet.specs.Record.{countOf, first, next};
 ghost use Rattle.layout.specs.Built.{role, isBuilt};
 ghost use Rattle.layout.specs.Needs.{cellsFrom, registersFrom};
 ghost use Rattle.layout.specs.Tables.{Table, Passed, roleCode, codeRole};
-ghost use Rattle.unit.specs.Unit.{silence};
+ghost use Rattle.unit.specs.Own.{silence};
 ghost use Rattle.unit.specs.State.{ringsOk};
 ghost use Rattle.unit.specs.Start.{path};
 ghost use Rattle.machine.specs.Machine.{isFilter, scaled};
@@ -73,7 +73,7 @@ pub fn set_cutoff(
 {
     let mut i = 0usize;
     while i < count {
-        let k = rings::kind_at(sheet, i);
+        let k = sheet::kind_at(sheet, i);
         scale(acts[i], k, places[i], x, cells);
         i += 1;
     }
@@ -105,9 +105,5 @@ pub fn clear(scr: &mut [f32], n: usize)
     requires { ⌜ n ≤ length (now scr) ⌝ }
     ensures { λ r. ⌜ now (scr .exit) ≡ replicate n silence ++ drop n (now (scr .entry)) ⌝ }
 {
-    let mut k = 0usize;
-    while k < n {
-        scr[k] = 0.0;
-        k += 1;
-    }
+    block::fill_block(&mut scr[..n], 0.0);
 }

@@ -1,22 +1,14 @@
 // Check 9 of one record.
 ghost use mathlib.Core.Path.{_≡_};
-ghost use Prim.Native.Nat.{_+_, _*_, _≤_, _<_};
+ghost use Prim.Native.Nat.{_+_, _≤_, _<_};
 ghost use lib.ListN.{length};
 ghost use Rattle.sheet.specs.Record.{rateOf, kind};
 ghost use Rattle.layout.specs.Built.{role};
 ghost use Rattle.layout.specs.Needs.{cellsBy, registersBy, cellsFrom, registersFrom};
 ghost use Rattle.layout.specs.Tables.{Table, Passed, roleCode};
-ghost use Rattle.unit.specs.Own.{word};
+ghost use Rattle.block.specs.Iterate.{word};
 ghost use Rattle.unit.specs.Processors.{reverbLines};
 ghost use Rattle.unit.specs.State.{placeOk, placesOk, phaseOk, ownOk, recordOk};
-
-pub fn kind_at(sheet: &[u8], i: usize) -> u8
-    requires { ⌜ 24 + 40 * (i + 1) ≤ length (now sheet) ⌝ }
-    ensures { λ r. ⌜ r ≡ kind (now (sheet .entry)) i ⌝ }
-{
-    let a = 24 + 40 * i;
-    sheet::kind(&sheet[a..])
-}
 
 // The combs' lines, then the allpasses'.
 fn line_len(k: u64, rate: u32) -> u64
@@ -90,7 +82,7 @@ pub fn record_ok(
     if acts[i] < 2 {
         return true;
     }
-    let k = kind_at(sheet, i);
+    let k = sheet::kind_at(sheet, i);
     if k < 29 {
         return true;
     }

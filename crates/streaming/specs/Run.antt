@@ -1,6 +1,6 @@
 -- A run of samples, block by block: what is made and left is what the sample machine makes and leaves, whatever the scratch held.
 use mathlib.Core.Path.{_≡_, refl, sym, ap, _∙_}
-use mathlib.Core.List.{List, _∷_, _++_, map}
+use mathlib.Core.List.{List, _++_, map}
 use Prim.Native.Nat.{ℕ, zero, suc, _+_, _-_, _^_, _≤_, _<_}
 use native.Mathlib.Nat.{add-zero}
 use native.Mathlib.Numerals.{add-one}
@@ -20,8 +20,7 @@ use Rattle.layout.specs.Built.{role, begin, after}
 use Rattle.layout.specs.Needs.{cellsFrom, registersFrom, scratchFrom}
 use Rattle.layout.specs.Tables.{Table, roleCode}
 use Rattle.layout.specs.Laws.{playable}
-use Rattle.unit.specs.Own.{Own}
-use Rattle.unit.specs.Unit.{silence}
+use Rattle.unit.specs.Own.{Own, silence}
 use Rattle.unit.specs.Voice.{voice}
 use Rattle.unit.specs.Block.{Pitched, moment}
 use Rattle.walk.specs.Walk.{Voiced, Ready, Scratch, Sound, Sourced, sound-after}

@@ -75,7 +75,7 @@ fn block(
     ensures { λ r. ⌜ (r .position ≡ c .position + length (now (out .entry))) × Blocked (now (sheet .entry)) (length (now (out .entry))) c (now (cells .entry)) (now (regs .entry)) (now (scr .entry)) r (now (out .exit)) (now (cells .exit)) (now (regs .exit)) (now (scr .exit)) ⌝ }
 {
     let r = glide_block(c, pitch);
-    walk::fill_block(out, 0.0);
+    block::fill_block(out, 0.0);
     walk::source(
         sheet,
         count,

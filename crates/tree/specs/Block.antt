@@ -1,14 +1,13 @@
--- A block: n values of a function of the index, and a state that is stepped n times. One law for every block loop.
+-- A block: n values of a function of the index. One law for every block loop.
 use mathlib.Core.Path.{_≡_, refl, sym, _∙_}
 use mathlib.Core.List.{List, [], _∷_, _++_, append-assoc, append-nil}
+use mathlib.Core.Logic.{⊎-elim}
 use Prim.Native.Nat.{ℕ, zero, suc, _+_, _≤_, _<_}
+use native.Mathlib.Nat.{eq-or-lt-of-le}
 use native.Mathlib.Numerals.{add-one}
 use native.Mathlib.Omega.{arith}
-use lib.ListN.{length, take, drop, set, getD, length-set, length-append, drop-of-length-le, List·getD-append}
-use lib.Seq.{drop-cons, set-at, set-split, getD-at, ext-getD, getD-take, getD-drop}
-use native.Mathlib.Nat.{add-zero, eq-or-lt-of-le}
-use mathlib.Core.Logic.{⊎-elim}
-use Prim.Native.Nat.{_-_}
+use lib.ListN.{length, drop, set, getD, length-set, length-append, drop-of-length-le, List·getD-append}
+use lib.Seq.{drop-cons, set-at, getD-at, ext-getD}
 
 module _ {A : Type 0} where
   -- f 0, f 1, .., f (n - 1)
@@ -21,14 +20,10 @@ module _ {A : Type 0} where
   length-tab zero f = refl
   length-tab (suc n) f = simp (length-append, length-tab n f) (omega arith)
 
-  -- s, step 0 s, step 1 (step 0 s), ..
-  unfoldable pub iter : (ℕ → A → A) → A → ℕ → A
-  iter step s zero = s
-  iter step s (suc n) = step n (iter step s n)
-
-  pub iter-more : (step : ℕ → A → A) (s : A) (n : ℕ) → iter step s (n + 1) ≡ step n (iter step s n)
-  unfolding iter
-  iter-more step s n = rw add-one
+  pub tab-eq : (n : ℕ) (f g : ℕ → A) → ((k : ℕ) → k < n → f k ≡ g k) → tab n f ≡ tab n g
+  unfolding tab
+  tab-eq zero f g e = refl
+  tab-eq (suc n) f g e = λ i. tab-eq n f g (λ k h. e k (omega arith)) i ++ (e n (omega arith) i ∷ [])
 
   -- the loop's invariant where it begins
   pub tab-none : (f : ℕ → A) (d : List A) → d ≡ tab 0 f ++ drop 0 d
@@ -62,29 +57,6 @@ module _ {A : Type 0} where
   fill-end {f} {d} {out} {n} i h =
       let z : length d ≡ n = omega arith in
       rw (i .is, z) (tab-all f d n h)
-
-  -- THE INVARIANT of a recurrence's state: p is s after n steps
-  pub record After (step : ℕ → A → A) (s p : A) (n : ℕ) : Type 0 where
-    pub at : p ≡ iter step s n
-
-  pub after-start : (step : ℕ → A → A) (s : A) → After step s s 0
-  unfolding iter
-  after-start step s = record { at = refl }
-
-  pub after-turn : {step : ℕ → A → A} {s p : A} {n : ℕ} → After step s p n → {q : A} → q ≡ step n p → After step s q (n + 1)
-  after-turn {step} {s} {p} {n} i {q} w = record { at = rw (iter-more, w, i .at) }
-
-  -- a part of one element, as it was lent, and back
-  pub cell-of : (a : ℕ) (xs : List A) (z : A) → getD (take (a + 1 - a) (drop a xs)) 0 z ≡ getD xs a z
-  cell-of a xs z =
-      let e : a + 1 - a ≡ 1 = omega arith in
-      let h : 0 < 1 = omega arith in
-      rw (e, getD-take 1 (drop a xs) 0 z h, getD-drop, add-zero)
-
-  pub cell-back : (a : ℕ) (xs : List A) (v : A) → a < length xs → take a xs ++ (set (take (a + 1 - a) (drop a xs)) 0 v ++ drop (a + 1 - a) (drop a xs)) ≡ set xs a v
-  cell-back a xs v h =
-      let e : a + 1 - a ≡ 1 = omega arith in
-      rw (e, drop-cons xs a v h, set-split xs a v h)
 
   -- what is not filled yet is as it was
   pub fill-rest : {f : ℕ → A} {d out : List A} {n : ℕ} → Filled f d out n → n < length d → (z : A) → getD out n z ≡ getD d n z

@@ -18,7 +18,7 @@ use Rattle.ieee.proofs.Tests.{two-to, is-true, one-32}
 use Rattle.float.specs.Order.{clampOf}
 use Rattle.float.specs.Single.{one, zero as zeroF}
 use Rattle.tree.specs.Block.{tab, length-tab}
-use Rattle.block.specs.Iterate.{at}
+use Rattle.block.specs.Iterate.{at, word}
 use Rattle.dsl.specs.declared.SuperWave.{SuperWave}
 use Rattle.dsl.specs.declared.NoiseColor.the-variants.{Brown}
 use Rattle.dsl.specs.Options.{noiseColorOf}
@@ -31,23 +31,23 @@ use Rattle.value.specs.Modulators.{randIncrement}
 use Rattle.value.proofs.RandPhase.{phase-kept, increment-bound}
 use Rattle.bank_block.specs.Banks.{units, voiceAt, superOf, modeStep, putMode, modalOf, Wet, combAt, allpassAt, reverbOf}
 use Rattle.control.specs.declared.Controls.{Controls}
-use Rattle.sheet.specs.Bytes.{byteAt, u16At}
-use Rattle.sheet.specs.Record.{countOf, rateOf, lengthOf, kindOf, optionOf, numberOf, recordAt, kind}
+use Rattle.sheet.specs.Record.{countOf, rateOf, lengthOf, optionOf, numberOf, recordAt, kind}
 use Rattle.sheet.specs.Kinds.{rowOf, lookup}
 use Rattle.sheet.specs.declared.Value.{Value}
 use Rattle.sheet.specs.Value.{valueOf}
-use Rattle.sheet.specs.Checks.{all, recordOk, checkOf}
+use Rattle.sheet.specs.Checks.{all, checkOf}
 use Rattle.sheet.specs.Laws.{both, all-at, all-of}
 use Rattle.sheet.specs.Accepted.{kind-past}
 use Rattle.layout.specs.Built.{role, isBuilt, built}
 use Rattle.layout.specs.Good.{good}
 use Rattle.layout.specs.Needs.{needOf, noiseCells, chainLength, cellsBy, registersBy, cells, registers}
-use Rattle.layout.specs.Counts.{cellRows, cellsWith, registersWith, cells-with, registers-with, cells-built, registers-built}
-use Rattle.unit.specs.Own.{Own, word, Ugen, stateless}
+use Rattle.layout.specs.Contents.{option-in}
+use Rattle.layout.specs.Counts.{cellsWith, registersWith, cells-with, registers-with, cells-built, registers-built}
+use Rattle.unit.specs.Own.{Own, Ugen, stateless, silentUnit}
 use Rattle.unit.specs.Values.{randUnit, valueUnit, walkOf}
 use Rattle.unit.specs.Sources.{sineUnit, squareUnit, sawUnit, triangleUnit, fmUnit, superUnit, whiteUnit, pinkUnit, brownUnit, noiseUnit, dustUnit, sourceUnit}
 use Rattle.unit.specs.Processors.{filterUnit, delayUnit, chorusUnit, reverbLines, reverbUnit, modalUnit, antialiasedUnit, driveUnit, compressUnit, processorUnit}
-use Rattle.unit.specs.Unit.{silentUnit, stepsOf, srf, kindUnit, unitOf}
+use Rattle.unit.specs.Unit.{stepsOf, srf, kindUnit, unitOf}
 use Rattle.unit.specs.State.{placeOk, placesOk, phaseOk, ownOk}
 use Rattle.unit.specs.Start.{modalStart, startCells, startRegisters}
 
@@ -70,33 +70,26 @@ no-options : (k : ℕ) → 35 < k → k < 41 → rowOf k .options ≡ 0
 unfolding all lookup
 no-options k h l = all-over (λ j. rowOf j .options) 36 5 0 refl k h l
 
-option-in : (r : List ℕ) → recordOk r ≡ true → optionOf r < rowOf (kindOf r) .options
-unfolding recordOk
-option-in r e =
-    let o = ltb (optionOf r) (rowOf (kindOf r) .options) in
-    let n = rowOf (kindOf r) .numbers in
-    ltb-true _ _ (both o _ (both (o && eqb (u16At r 6) 0) (all (λ k. eqb (byteAt r (8 + 4 * n + k)) 0) (32 - 4 * n)) e .0) .0)
-
 kind-known : (s : List ℕ) → checkOf s ≡ 0 → (i : ℕ) → 35 < kind s i → 41 ≤ kind s i
 kind-known s e i h = elim (decLt (kind s i) 41) [
   | no l ↦ omega arith
   | yes l ↦ elim (decLt i (countOf s)) [
     | no past ↦ omega (arith, kind-past s (good s e .long) i (omega arith))
-    | yes inside ↦ omega (arith, option-in (recordAt s i) (good s e .known i inside), no-options (kind s i) h l)
+    | yes inside ↦ omega (arith, option-in s (good s e) i inside, no-options (kind s i) h l)
   ]
 ]
 
 -- ---- what a kind needs, by the table
-filter-cells : (v c d b m h k : ℕ) → 21 < k → k < 29 → needOf k (cellRows v c d b m h) ≡ 11
-unfolding all needOf
-filter-cells v c d b m h k l g = all-over (λ j. needOf j (cellRows v c d b m h)) 22 7 11 refl k l g
-
 module _ (s : List ℕ) (i : ℕ) where
   cells-at : (k : ℕ) → kind s i ≡ k → cellsWith (recordAt s i) (rateOf s) k (chainLength s i) ≡ cellsBy s i
   cells-at k e = ap (λ k. cellsWith (recordAt s i) (rateOf s) k (chainLength s i)) (sym e) ∙ sym (cells-with s i)
 
   registers-at : (k : ℕ) → kind s i ≡ k → registersWith k ≡ registersBy s i
   registers-at k e = ap registersWith (sym e) ∙ sym (registers-with s i)
+
+  pub filter-need : 21 < kind s i → kind s i < 29 → cellsBy s i ≡ 11
+  unfolding all needOf
+  filter-need l h = cells-with s i ∙ all-over (λ k. cellsWith (recordAt s i) (rateOf s) k (chainLength s i)) 22 7 11 refl (kind s i) l h
 
 -- ---- sizes: n elements now, or as many as before
 abbrev Kept : ℕ → ℕ → ℕ → Type 0
@@ -163,7 +156,7 @@ module _ (s : List ℕ) (i : ℕ) where
       go (suc zero) q = record { sizes = λ t vs x p. (inl q, inl (registers-at s i 9 e)) }
       go (suc (suc c)) q = subst (λ color. Sized (noiseUnit color)) (brown-from c) (record { sizes = λ t vs x p. (inl q, inl (registers-at s i 9 e)) })
 
-  source-keeps : Sized (sourceUnit (recordAt s i) (srf s) (lengthOf s) (kind s i) silentUnit)
+  source-keeps : Sized (sourceUnit (recordAt s i) (srf s) (lengthOf s) (kind s i))
   unfolding needOf sourceUnit sineUnit squareUnit sawUnit triangleUnit fmUnit superUnit dustUnit
   source-keeps =
       let k = kind s i in
@@ -198,7 +191,7 @@ module _ (s : List ℕ) (i : ℕ) where
       (λ n34. record { sizes = λ t vs x p. (inl (cells-at s i 35 (last k (ltb-false k 29 n28) g n29 n30 n31 n32 n33 n34)), inr refl) }))))))))
     where
       filtered : kind s i ≢ 21 → kind s i < 29 → 11 ≡ cellsBy s i
-      filtered n h = sym (filter-cells _ _ _ _ _ _ (kind s i) (omega arith) h) ∙ sym (cells-with s i)
+      filtered n h = sym (filter-need s i (omega arith) h)
 
       last : (k : ℕ) → 29 ≤ k → k < 36 → k ≢ 29 → k ≢ 30 → k ≢ 31 → k ≢ 32 → k ≢ 33 → k ≢ 34 → k ≡ 35
       last k l g n29 n30 n31 n32 n33 n34 = omega arith
@@ -368,14 +361,12 @@ start-cells s i b =
     let k = kind s i in
     let q = cells-built s i b in
     at-kind Long k 6 (λ e. length-append (tab _ _) (tab _ _) ∙ voices (length-tab _ _) (length-tab _ _) ∙ cells-at s i 6 e ∙ sym q)
-    (λ _. on-cond Long (ltb 21 k)
-    (λ l. on-cond Long (ltb k 29) (λ h. sym (filter-cells _ _ _ _ _ _ k (ltb-true 21 k l) (ltb-true k 29 h)) ∙ sym (cells-with s i) ∙ sym q)
+    (λ _. on-cond Long (ltb 21 k && ltb k 29) (λ e. let h = both (ltb 21 k) (ltb k 29) e in sym (filter-need s i (ltb-true 21 k (h .0)) (ltb-true k 29 (h .1))) ∙ sym q)
     (λ _. at-kind Long k 31 (λ e. mode-cells s _ ∙ cells-at s i 31 e ∙ sym q)
     (λ _. at-kind Long k 32 (λ e. cells-at s i 32 e ∙ sym q)
     (λ _. at-kind Long k 35 (λ e. cells-at s i 35 e ∙ sym q)
     (λ _. at-kind Long k 46 (λ e. cells-at s i 46 e ∙ sym q)
     (λ _. length-replicate (cells s i) zeroF))))))
-    (λ _. length-replicate (cells s i) zeroF))
   where
     Long : List Float → Type 0
     Long cs = length cs ≡ cells s i
@@ -395,9 +386,6 @@ start-registers s i b =
   where
     Long : List ℕ → Type 0
     Long rs = length rs ≡ registers s i
-
-pub start-lengths : (s : List ℕ) (i : ℕ) → role s i ≡ built → (length (startCells s i) ≡ cells s i) × (length (startRegisters s i) ≡ registers s i)
-start-lengths s i b = (start-cells s i b, start-registers s i b)
 
 -- lines have a sample at least
 delay-some : (secs : Float) (sr : ℕ) → 0 < delayLine secs sr

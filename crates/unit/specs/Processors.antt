@@ -8,12 +8,11 @@ use lib.ListN.{length, set}
 use lib.Ieee.{Float, binary32, ofBits, ofInt}
 use Rattle.float.specs.Order.{maxOf, clampOf}
 use Rattle.float.specs.Single.{zero, one}
-use Rattle.block.specs.Iterate.{at}
+use Rattle.block.specs.Iterate.{at, word}
 use Rattle.dsl.specs.declared.DriveShape.{DriveShape}
 use Rattle.dsl.specs.Options.{driveShapeOf}
 use Rattle.render.specs.declared.FilterKind.{FilterKind}
 use Rattle.render.specs.declared.FilterKind.the-variants.{Low, High, Band, Notch, Peak, LowShelf, HighShelf}
-use Rattle.control.specs.declared.Controls.{Controls}
 use Rattle.sheet.specs.Record.{optionOf, numberOf}
 use Rattle.lines.specs.Lines.{chorusBase, chorusSwing, combLine, allpassLine}
 use Rattle.dsp.specs.Coefficients.{feedbackOf}
@@ -21,7 +20,7 @@ use Rattle.proc.specs.declared.Filter.{Filter}
 use Rattle.proc.specs.declared.Drive.{Drive}
 use Rattle.proc.specs.Effects.{gainOf, filterOf, driveStep, drivePlain, tremoloOf, compressOf, delayOf, nextPlace, chorusRead, chorusOf}
 use Rattle.bank_block.specs.Banks.{modalOf, reverbOf}
-use Rattle.unit.specs.Own.{Own, word, Ugen, stateless}
+use Rattle.unit.specs.Own.{Ugen, stateless}
 
 abbrev pub gainUnit : Ugen
 gainUnit = stateless (λ c vs x. gainOf (at vs 0) x)

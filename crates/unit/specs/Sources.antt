@@ -4,12 +4,11 @@ use mathlib.Core.List.{List, [], _∷_}
 use Prim.Native.Nat.{ℕ}
 use lib.Dec.{eqb}
 use lib.Ieee.{Float}
-use Rattle.block.specs.Iterate.{at}
+use Rattle.block.specs.Iterate.{at, word}
 use Rattle.dsl.specs.declared.SuperWave.{SuperWave}
 use Rattle.dsl.specs.declared.NoiseColor.{NoiseColor}
 use Rattle.dsl.specs.declared.NoiseColor.the-variants.{White, Pink, Brown}
 use Rattle.dsl.specs.Options.{superWaveOf, noiseColorOf}
-use Rattle.control.specs.declared.Controls.{Controls}
 use Rattle.control.specs.Moves.{bent}
 use Rattle.sheet.specs.Record.{optionOf, numberOf}
 use Rattle.layout.specs.Needs.{voicesOf}
@@ -18,7 +17,7 @@ use Rattle.source.specs.Oscillators.{sineOf, squareOf, sawOf, triangleOf, fmOf}
 use Rattle.source.specs.Others.{impactWidth, impactNorm, impactOf, envOf, whiteOf, pinkOf, brownOf, dustChance, dustDecay, dustOf}
 use Rattle.source.specs.declared.Poles.{Poles}
 use Rattle.bank_block.specs.Banks.{superOf}
-use Rattle.unit.specs.Own.{Own, word, Ugen, stateless}
+use Rattle.unit.specs.Own.{Ugen, stateless, silentUnit}
 
 -- ---- oscillators: a phase, or two numbers
 unfoldable pub sineUnit : Float → Ugen
@@ -69,8 +68,8 @@ unfoldable pub dustUnit : Float → Float → Ugen
 dustUnit chance decay c vs x o = let r = dustOf (word (o .1) 0) chance decay (at (o .0) 0) in (r .out, (r .y ∷ [], r .word ∷ []))
 
 -- ---- by kind: 1 Sine to 10 Dust, with the numbers of the record r. Other kinds are no sources; they play silence.
-unfoldable pub sourceUnit : List ℕ → Float → ℕ → ℕ → Ugen → Ugen
-sourceUnit r srf n kind silent =
+unfoldable pub sourceUnit : List ℕ → Float → ℕ → ℕ → Ugen
+sourceUnit r srf n kind =
     let x = numberOf r in
     let w = impactWidth (x 0) srf in
     cond (eqb kind 1) (sineUnit srf)
@@ -83,4 +82,4 @@ sourceUnit r srf n kind silent =
     (cond (eqb kind 8) (envUnit (x 0) (x 1) (x 2) (x 3) (x 4) srf (releaseStart n srf (x 3)))
     (cond (eqb kind 9) (noiseUnit (noiseColorOf (optionOf r)))
     (cond (eqb kind 10) (dustUnit (dustChance (x 0) srf) (dustDecay (x 1) srf))
-    silent)))))))))
+    silentUnit)))))))))

@@ -1,5 +1,5 @@
 -- What each kind owns when a voice is built, as the Rust starts it. Numbers that are not named are 0.
-use mathlib.Core.Bool.{cond}
+use mathlib.Core.Bool.{cond, _&&_}
 use mathlib.Core.List.{List, [], _∷_, _++_}
 use Prim.Native.Nat.{ℕ, zero, suc}
 use lib.Dec.{eqb, ltb}
@@ -18,7 +18,6 @@ use Rattle.sheet.specs.Record.{rateOf, pathOf, optionOf, bitsOf, numberOf, reco
 use Rattle.sheet.specs.Tree.{records, spine}
 use Rattle.layout.specs.Built.{linker, owner}
 use Rattle.layout.specs.Needs.{voicesOf, cells, registers}
-use Rattle.unit.specs.Own.{Own}
 use Rattle.unit.specs.Unit.{srf}
 
 abbrev single : ℕ → Float
@@ -75,13 +74,12 @@ startCells s i =
     let k = kind s i in
     let r = recordAt s i in
     cond (eqb k 6) (superStart (voicesOf r) (numberOf r 1))
-    (cond (ltb 21 k) (cond (ltb k 29) filterStart
+    (cond (ltb 21 k && ltb k 29) filterStart
     (cond (eqb k 31) (modalStart s (spine (records s (first s i))))
     (cond (eqb k 32) (driveStart (optionOf r))
     (cond (eqb k 35) (compressStart (numberOf r) (srf s))
     (cond (eqb k 46) (randStart r)
     (replicate (cells s i) zeroF))))))
-    (replicate (cells s i) zeroF))
 
 -- ---- generator words: by where a node stands in the tree
 -- how many records stand before j in its chain; links climb, so j steps are enough

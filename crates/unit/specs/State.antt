@@ -4,15 +4,15 @@ use mathlib.Core.List.{List}
 use Prim.Native.Nat.{ℕ}
 use lib.Dec.{eqb, ltb}
 use lib.ListN.{length}
-use lib.Ieee.{Float, lt, le}
+use lib.Ieee.{lt, le}
 use Rattle.float.specs.Single.{zero, one}
-use Rattle.block.specs.Iterate.{at}
+use Rattle.block.specs.Iterate.{at, word}
 use Rattle.sheet.specs.Record.{countOf, rateOf, kind}
 use Rattle.sheet.specs.Checks.{all}
 use Rattle.tree.specs.Flat.{own}
 use Rattle.layout.specs.Built.{role, isBuilt}
 use Rattle.layout.specs.Counts.{layoutOf}
-use Rattle.unit.specs.Own.{Own, word}
+use Rattle.unit.specs.Own.{Own}
 use Rattle.unit.specs.Processors.{reverbLines}
 
 -- Delay and Chorus have one line, which is all their cells

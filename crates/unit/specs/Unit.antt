@@ -2,25 +2,18 @@
 use mathlib.Core.Bool.{cond}
 use mathlib.Core.List.{List, map}
 use Prim.Native.Nat.{ℕ}
-use lib.Dec.{eqb, ltb, leb}
+use lib.Dec.{ltb}
 use lib.IntN.{pos}
 use lib.Ieee.{Float, binary32, ofInt}
-use Rattle.float.specs.Single.{zero}
 use Rattle.sheet.specs.Record.{rateOf, lengthOf, numberOf, recordAt, kind, first}
 use Rattle.sheet.specs.Tree.{records, spine}
 use Rattle.sheet.specs.Value.{valueOf}
 use Rattle.layout.specs.Built.{role, isBuilt}
 use Rattle.layout.specs.Needs.{chainLength}
-use Rattle.unit.specs.Own.{Ugen, stateless}
+use Rattle.unit.specs.Own.{Ugen, silentUnit}
 use Rattle.unit.specs.Values.{valueUnit}
 use Rattle.unit.specs.Sources.{sourceUnit}
 use Rattle.unit.specs.Processors.{processorUnit}
-
-abbrev pub silence : Float
-silence = zero
-
-abbrev pub silentUnit : Ugen
-silentUnit = stateless (λ c vs x. silence)
 
 -- the numbers of the Step records in record i's chain, in order
 abbrev pub stepsOf : List ℕ → ℕ → List Float
@@ -34,7 +27,7 @@ unfoldable pub kindUnit : List ℕ → ℕ → Ugen
 kindUnit s i =
     let k = kind s i in
     let r = recordAt s i in
-    cond (ltb k 21) (sourceUnit r (srf s) (lengthOf s) k silentUnit)
+    cond (ltb k 21) (sourceUnit r (srf s) (lengthOf s) k)
     (cond (ltb k 41) (processorUnit r (rateOf s) (chainLength s i) k)
     (valueUnit (valueOf r) (stepsOf s i) (srf s) (lengthOf s)))
 

@@ -2,13 +2,12 @@
 use mathlib.Core.List.{List, [], _∷_}
 use Prim.Native.Nat.{ℕ}
 use lib.Ieee.{Float}
-use Rattle.block.specs.Iterate.{at}
-use Rattle.control.specs.declared.Controls.{Controls}
+use Rattle.block.specs.Iterate.{at, word}
 use Rattle.sheet.specs.declared.Value.{Value}
 use Rattle.sheet.specs.declared.Value.the-variants.{Const, Slide, Lfo, Arp, EnvMod, Rand}
 use Rattle.value.specs.declared.Rand.{Rand as Walk}
 use Rattle.value.specs.Modulators.{slideSecs, slideOf, lfoOf, arpOf, releaseStart, envModOf, randIncrement, randOut, randNext}
-use Rattle.unit.specs.Own.{Own, word, Ugen, stateless}
+use Rattle.unit.specs.Own.{Own, Ugen, stateless}
 
 -- Rand's walk in its cells and its register
 abbrev pub walkOf : Own → Walk

@@ -13,8 +13,8 @@ use Rattle.sheet.specs.Record.{countOf, kind}
 use Rattle.sheet.specs.Kinds.{Chain, empty, values, nodes, modes, steps, rowOf, isFold}
 use Rattle.layout.specs.Built.{begin, after}
 use Rattle.layout.specs.Counts.{layoutOf}
-use Rattle.unit.specs.Own.{Own}
-use Rattle.unit.specs.Unit.{silence, unitOf}
+use Rattle.unit.specs.Own.{Own, silence}
+use Rattle.unit.specs.Unit.{unitOf}
 
 -- 11 Mix adds its inputs to 0, 12 Mul multiplies 1 by them, 13 Chain passes a sample through its stages; the others play by their own unit
 abbrev pub joinOf : ℕ → Float → Float → Float

@@ -6,9 +6,6 @@ use Rattle.dsl.specs.declared.Curve.{Curve}
 use Rattle.value.specs.declared.Rand.{Rand}
 use Rattle.value.specs.Modulators.{slideOf, lfoOf, envModOf, randOut, randNext}
 
-unfoldable pub constantStep : Float → ℕ → Unit {0} → Float × Unit {0}
-constantStep x k s = (x, s)
-
 unfoldable pub slideStep : Curve → Float → Float → Float → Float → ℕ → ℕ → Unit {0} → Float × Unit {0}
 slideStep curve from to secs srf t k s = (slideOf curve from to secs srf (t + k), s)
 

@@ -3,18 +3,7 @@ ghost use mathlib.Core.Path.{_≡_};
 ghost use Prim.Native.Nat.{_+_, _^_, _<_};
 ghost use lib.ListN.{length};
 ghost use Rattle.block.specs.Iterate.{given, after};
-ghost use Rattle.value_block.specs.Steps.{constantStep, slideStep, lfoStep, envModStep, randStep};
-
-// A Const: the same number throughout.
-pub fn constant_block(out: &mut [f32], x: f32)
-    ensures { λ v. ⌜ (now (out .exit) ≡ given (constantStep x) tt (length (now (out .entry)))) ⌝ }
-{
-    let mut k: usize = 0;
-    while k < out.len() {
-        out[k] = x;
-        k += 1;
-    }
-}
+ghost use Rattle.value_block.specs.Steps.{slideStep, lfoStep, envModStep, randStep};
 
 // secs is `slide_secs` of the sheet, worked out once.
 pub fn slide_block(

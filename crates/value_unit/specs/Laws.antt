@@ -10,7 +10,7 @@ use borrow.Author.Tests.{eq-eqb, ne-eqb, le-ltb}
 use lib.ListN.{length, getD, set, length-map}
 use lib.Ieee.{Float, nan}
 use Rattle.tree.specs.Block.{tab}
-use Rattle.block.specs.Iterate.{at, given}
+use Rattle.block.specs.Iterate.{at, given, given-still}
 use Rattle.control.specs.declared.Controls.{Controls}
 use Rattle.float.specs.Single.{zero as zeroF}
 use Rattle.value.specs.Modulators.{arpIndex, arpOf}
@@ -26,7 +26,7 @@ use Rattle.unit.specs.Own.{stateless}
 use Rattle.unit.specs.Values.{valueUnit}
 use Rattle.unit.specs.Unit.{stepsOf, srf, kindUnit}
 use Rattle.unit.specs.Block.{moment, Ran, Lent, ran-stateless}
-use Rattle.value_unit.specs.Lent.{written}
+use Rattle.tree.specs.Lists.{written}
 
 -- ---- an Arp's steps, from the record j of the chain on; the k-th of them, past the end nan
 abbrev pub stepsFrom : List ℕ → ℕ → List Float
@@ -136,7 +136,10 @@ pub stateless-ran : (f : Controls → List Float → Float → Float) (g : ℕ �
     → ys ≡ given g tt (length xs) → ((k : ℕ) → f (moment c k) [] (at xs k) ≡ g k tt .0) → Ran (stateless f) c [] xs cs rs ys cs rs
 stateless-ran f g c y e = ran-stateless f g c [] (λ k l. e k) y
 
+pub constant-ran : (y : Float) (c : Controls) {xs cs ys : List Float} {rs : List ℕ} → ys ≡ map (λ x. y) xs → Ran (stateless (λ t vs x. y)) c [] xs cs rs ys cs rs
+constant-ran y c {xs} e = stateless-ran (λ t vs x. y) (λ k u. (y, u)) c (e ∙ sym (given-still (λ k u. (y, u)) y (λ k u. refl) tt xs)) (λ k. refl)
+
 -- Rand's cells as they are stored
-pub three-stored : {A : Type 0} (d : A) (l : List A) {x y z : A} → length l ≡ 3 → set (set (set l 0 x) 1 y) 2 z ≡ x ∷ y ∷ z ∷ []
+pub three-stored : {A : Type 0} (l : List A) {x y z : A} → length l ≡ 3 → set (set (set l 0 x) 1 y) 2 z ≡ x ∷ y ∷ z ∷ []
 unfolding tab
-three-stored d l {x} {y} {z} e = ap (λ l. set (set (set l 0 x) 1 y) 2 z) (written d 3 l e)
+three-stored l {x} {y} {z} e = ap (λ l. set (set (set l 0 x) 1 y) 2 z) (written x 3 l e)

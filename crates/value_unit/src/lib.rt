@@ -102,7 +102,7 @@ fn arp(
 {
     let n = layout::needs::chain_length(sheet, count, nexts, first);
     if n == 0 {
-        value_block::constant_block(out, 0.0);
+        block::fill_block(out, 0.0);
         return;
     }
     arp_steps(out, sheet, count, nexts, first, n, rate, srf, t);
@@ -155,7 +155,7 @@ pub fn play(
     let t = c.position;
     let v = sheet::read_value(&sheet[24 + 40 * i..]);
     match v {
-        sheet::Value::Const(x) => value_block::constant_block(out, x),
+        sheet::Value::Const(x) => block::fill_block(out, x),
         sheet::Value::Slide {
             from,
             to,

@@ -1,18 +1,16 @@
 -- A record that plays by its own unit: its values first, each over the whole block, then the unit.
 use mathlib.Core.Path.{_≡_, refl, sym, ap, _∙_, subst}
 use mathlib.Core.Bool.{true, false}
-use mathlib.Core.List.{List, [], _∷_, _++_, map}
+use mathlib.Core.List.{List, [], _∷_, map}
 use mathlib.Core.Logic.{_≢_}
-use Prim.Native.Nat.{ℕ, zero, suc, _+_, _-_, _≤_, _<_}
+use Prim.Native.Nat.{ℕ, suc, _-_, _≤_, _<_}
 use native.Mathlib.Omega.{arith}
 use native.Mathlib.Decide.{ℕ-discrete}
 use lib.ListN.{length, length-map}
 use lib.Ieee.{Float}
 use Rattle.tree.specs.Tree.{leaf}
 use Rattle.tree.specs.Flat.{own, put, put-own}
-use Rattle.tree.specs.Block.{tab}
-use Rattle.tree.specs.Lists.{tab-const}
-use Rattle.block.specs.Iterate.{given, after, samples, samples-same}
+use Rattle.block.specs.Iterate.{samples, samples-same, after-still, given-still}
 use Rattle.block.specs.Patch.{All, played, steps, leaf-none, leaf-one, leaf-two, played-all}
 use Rattle.control.specs.declared.Controls.{Controls}
 use Rattle.sheet.specs.Record.{countOf, kind}
@@ -22,25 +20,13 @@ use Rattle.layout.specs.Good.{good}
 use Rattle.layout.specs.Tables.{roleCode}
 use Rattle.layout.specs.Counts.{layoutOf}
 use Rattle.layout.specs.Contents.{Value, one-value, two-values, no-links}
-use Rattle.unit.specs.Own.{Own}
-use Rattle.unit.specs.Unit.{silence, unitOf}
+use Rattle.unit.specs.Own.{Own, silence}
+use Rattle.unit.specs.Unit.{unitOf}
 use Rattle.unit.specs.Voice.{voice, treeKind, entered, playing}
 use Rattle.unit.specs.Sound.{OwnSound}
 use Rattle.units.specs.Values.{valuesOf, buffersOf, hasUnit, leaf-chain, leaf-quiet, leaf-most, leaf-values, value-quiet}
 use Rattle.walk.specs.Nodes.{value-blind}
 use Rattle.walk.specs.Walk.{Sound, Voiced, Ready, Lends, Played, Leafed}
-
--- ---- steps without a state
-module _ {S A : Type 0} (f : ℕ → S → A × S) (y : A) (still : (k : ℕ) (s : S) → f k s ≡ (y, s)) where
-  after-still : (s : S) (n : ℕ) → after f s n ≡ s
-  unfolding after
-  after-still s zero = refl
-  after-still s (suc n) = ap (λ (p : A × S). p .1) (still n (after f s n)) ∙ after-still s n
-
-  given-still : (s : S) (n : ℕ) → given f s n ≡ tab n (λ k. y)
-  unfolding given tab
-  given-still s zero = refl
-  given-still s (suc n) = λ i. given-still s n i ++ (still n (after f s n) i .0 ∷ [])
 
 playing-none : (c : Chain) → playing c 0 ≡ 0
 playing-none empty = refl
@@ -64,8 +50,8 @@ module _ {s : List ℕ} {count : ℕ} (v : Voiced s count) where
       let o : Own = own (layoutOf s) i (cs, rs) in
       record {
         is = sym (leaf-none (voice s) (v .valid) i k z c xs (cs, rs) room
-            ∙ (λ j. (given-still (steps (voice s) i c [] xs) silence still o (length xs) j, put (layoutOf s) i (after-still (steps (voice s) i c [] xs) silence still o (length xs) j) (cs, rs)))
-            ∙ (λ j. ((tab-const silence xs ∙ sym e) j, put-own (layoutOf s) i (cs, rs) (room .0) (room .1) j)));
+            ∙ (λ j. (given-still (steps (voice s) i c [] xs) silence still o xs j, put (layoutOf s) i (after-still (steps (voice s) i c [] xs) silence still o (length xs) j) (cs, rs)))
+            ∙ (λ j. (sym e j, put-own (layoutOf s) i (cs, rs) (room .0) (room .1) j)));
       }
 
   -- whatever stands in a value's buffer before

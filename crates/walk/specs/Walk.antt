@@ -3,7 +3,7 @@ use mathlib.Core.Path.{_≡_, refl, sym, ap, ap₂, _∙_, subst, subst₃}
 use mathlib.Core.Bool.{true, false, cond}
 use mathlib.Core.List.{List, [], _∷_, _++_, map}
 use mathlib.Core.Logic.{_≢_}
-use Prim.Native.Nat.{ℕ, zero, suc, _+_, _*_, _-_, _^_, _≤_, _<_}
+use Prim.Native.Nat.{ℕ, zero, suc, _+_, _-_, _^_, _≤_, _<_}
 use native.Mathlib.Omega.{arith}
 use native.Mathlib.Decide.{ℕ-discrete}
 use lib.Dec.{eqb}
@@ -13,8 +13,7 @@ use lib.Ieee.{Float}
 use borrow.Author.Tests.{eq-eqb, ne-eqb}
 use Rattle.tree.specs.Comm.{M, zip}
 use Rattle.tree.specs.Tree.{Mode, piping, joining, leaf, fold, chain, bstep, bone}
-use Rattle.tree.specs.Loop.{zip-length}
-use Rattle.tree.specs.Lists.{map-const, lay-part}
+use Rattle.tree.specs.Lists.{map-const, zip-length, lay-part}
 use Rattle.block.specs.Patch.{Valid, All, source, along, played, along-none, along-some, source-all}
 use Rattle.control.specs.declared.Controls.{Controls}
 use Rattle.sheet.specs.Record.{countOf, kind, next}
@@ -26,8 +25,8 @@ use Rattle.layout.specs.Good.{good}
 use Rattle.layout.specs.Laws.{playable}
 use Rattle.layout.specs.Counts.{cells-built, registers-built}
 use Rattle.sheet.specs.Laws.{sum-suc}
-use Rattle.unit.specs.Own.{Own, Ugen}
-use Rattle.unit.specs.Unit.{silence, kindUnit, unitOf}
+use Rattle.unit.specs.Own.{Own, Ugen, silence}
+use Rattle.unit.specs.Unit.{kindUnit, unitOf}
 use Rattle.unit.specs.Voice.{voice, treeKind, entered, joinOf, emptyOf}
 use Rattle.unit.specs.State.{ownOk}
 use Rattle.unit.specs.Sound.{OwnSound, UnitsKeep, voice-valid, units-keep}

@@ -3,10 +3,10 @@
 ghost use mathlib.Core.Path.{_≡_};
 ghost use mathlib.Core.Bool.{true, false};
 ghost use mathlib.Core.List.{map};
-ghost use Prim.Native.Nat.{_+_, _*_, _≤_, _<_};
+ghost use Prim.Native.Nat.{_+_, _≤_, _<_};
 ghost use lib.ListN.{length};
 ghost use Rattle.tree.specs.Comm.{zip};
-ghost use Rattle.sheet.specs.Record.{countOf, kind};
+ghost use Rattle.sheet.specs.Record.{kind};
 ghost use Rattle.sheet.specs.Kinds.{isFold};
 ghost use Rattle.layout.specs.Needs.{scratch};
 ghost use Rattle.unit.specs.Voice.{joinOf, emptyOf};
@@ -14,16 +14,6 @@ ghost use Rattle.units.specs.Values.{valuesOf, buffersOf};
 ghost use mathlib.Core.Logic.{_≢_};
 ghost use Rattle.walk.specs.Nodes.{Node};
 ghost use Rattle.walk.specs.Walk.{Ready, Scratch, Sound, Lends, Played, Leafed, Sourced, Chained, Mixed, put, mid};
-
-pub fn fill_block(out: &mut [f32], x: f32)
-    ensures { λ r. ⌜ now (out .exit) ≡ map (λ y. x) (now (out .entry)) ⌝ }
-{
-    let mut k: usize = 0;
-    while k < out.len() {
-        out[k] = x;
-        k += 1;
-    }
-}
 
 // Mix adds, Mul multiplies.
 fn join(kind: u8, a: f32, b: f32) -> f32
@@ -67,7 +57,7 @@ fn scratch_fill(scr: &mut [f32], at: usize, n: usize, x: f32)
     ensures { λ r. ⌜ now (scr .exit) ≡ put at n (now (scr .entry)) (map (λ y. x) (mid at n (now (scr .entry)))) ⌝ }
 {
     let e = at + n;
-    fill_block(&mut scr[at..e], x);
+    block::fill_block(&mut scr[at..e], x);
 }
 
 fn scratch_join(kind: u8, scr: &mut [f32], at: usize, x: &[f32])
@@ -92,15 +82,6 @@ fn is_fold(kind: u8) -> bool
     (kind == 11) | (kind == 12)
 }
 
-// The kind of record i.
-fn kind_at(sheet: &[u8], i: usize) -> u8
-    requires { ⌜ (i < countOf (now sheet)) × (countOf (now sheet) ≤ 256) × (24 + 40 * countOf (now sheet) ≤ length (now sheet)) ⌝ }
-    ensures { λ r. ⌜ r ≡ kind (now (sheet .entry)) i ⌝ }
-{
-    let a = 24 + 40 * i;
-    sheet::kind(&sheet[a..])
-}
-
 // A built record's own unit, on its own parts of the cells and registers.
 fn own(
     sheet: &[u8],
@@ -120,7 +101,7 @@ fn own(
     requires { ⌜ Lends (now sheet) count (now nexts) (now places) (now words) i c (now pitch) (length (now out)) (length (now v)) (length (now w)) × Sound (now sheet) (now cells) (now regs) ⌝ }
     ensures { λ r. ⌜ Played (now (sheet .entry)) i c (now (out .entry)) (buffersOf (valuesOf (kind (now (sheet .entry)) i)) (now (v .entry)) (now (w .entry))) (now (cells .entry)) (now (regs .entry)) (now (out .exit)) (now (cells .exit)) (now (regs .exit)) ⌝ }
 {
-    let k = kind_at(sheet, i);
+    let k = sheet::kind_at(sheet, i);
     let a = places[i];
     let e = places[i + 1];
     let p = words[i];
@@ -164,10 +145,10 @@ fn leaf(
     ensures { λ r. ⌜ Leafed (now (sheet .entry)) i c (now (out .entry)) (now (cells .entry)) (now (regs .entry)) (now (out .exit)) (now (cells .exit)) (now (regs .exit)) ⌝ }
 {
     if acts[i] < 2 {
-        fill_block(out, 0.0);
+        block::fill_block(out, 0.0);
         return;
     }
-    let m = units::values_of(kind_at(sheet, i));
+    let m = units::values_of(sheet::kind_at(sheet, i));
     if m == 0 {
         own(
             sheet,
@@ -277,7 +258,7 @@ pub fn source(
     requires { ⌜ Ready (now sheet) count (now nexts) (now acts) (now begins) (now afters) (now places) (now words) c (now pitch) (length (now out)) (length (now v)) (length (now w)) × Scratch (now sheet) count (now blocks) (length (now scr)) × Sound (now sheet) (now cells) (now regs) × (i < count) × Node (now sheet) i ⌝ }
     ensures { λ r. ⌜ Sourced (now (sheet .entry)) i c (now (out .entry)) (now (cells .entry)) (now (regs .entry)) (now (scr .entry)) (now (out .exit)) (now (cells .exit)) (now (regs .exit)) (now (scr .exit)) ⌝ }
 {
-    let k = kind_at(sheet, i);
+    let k = sheet::kind_at(sheet, i);
     if is_fold(k) {
         let at = blocks[i];
         scratch_fill(scr, at, out.len(), empty(k));
@@ -421,11 +402,11 @@ fn mix(
     requires { ⌜ Ready (now sheet) count (now nexts) (now acts) (now begins) (now afters) (now places) (now words) c (now pitch) (length (now out)) (length (now v)) (length (now w)) × Scratch (now sheet) count (now blocks) (length (now scr)) × Sound (now sheet) (now cells) (now regs) × (i < count) × (isFold (kind (now sheet) i) ≡ true) × (scratch (now sheet) i ≡ 256) ⌝ }
     ensures { λ r. ⌜ Mixed (now (sheet .entry)) i (length (now (out .entry))) c (now (cells .entry)) (now (regs .entry)) (now (scr .entry)) (now (cells .exit)) (now (regs .exit)) (now (scr .exit)) ⌝ }
 {
-    let k = kind_at(sheet, i);
+    let k = sheet::kind_at(sheet, i);
     let at = blocks[i];
     let mut j = begins[i];
     while j != 0 {
-        fill_block(out, 0.0);
+        block::fill_block(out, 0.0);
         source(
             sheet,
             count,

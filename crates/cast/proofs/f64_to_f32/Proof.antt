@@ -1,28 +1,15 @@
 -- `cast::f64_to_f32` meets its contract. Assumes nothing.
-use mathlib.Core.Path.{_≡_, refl, sym, ap, _∙_, subst}
-use lib.Dec.{T}
-use lib.Ieee.{Float, binary64, lt, ofBits}
 use borrow.Author.Needs.{needs}
-use Rattle.ieee.proofs.Tests.{two-to, yes}
-use Rattle.cast.proofs.Normal.{tiny}
+use Rattle.ieee.proofs.Tests.{yes}
+use Rattle.ieee.proofs.Read.{self-number}
 use Rattle.cast.proofs.f64_to_f32.Statement.{statement}
 use Rattle.cast.proofs.f64_to_f32.Tie as tie
 
-two-127 : ofBits binary64 0x47e0_0000_0000_0000 ≡ two-to 127
-unfolding ofBits
-two-127 = refl
-
-least : ofBits binary64 0x3810_0000_0000_0000 ≡ tiny
-unfolding ofBits
-least = refl
-
-size-requires : tie.Need-size-requires
-size-requires c κs = search needs
+float-to-bits-field : tie.Need-float-to-bits-field
+float-to-bits-field c = self-number (c .before .args .x) (yes (c .if1 .taken))
 
 narrow-normal-requires : tie.Need-narrow-normal-requires
-narrow-normal-requires c κs =
-    let e = c .before .before .size .ensures in
-    (subst (λ (m : Float). T (lt tiny m)) e (yes (rw least at (c .if2 .taken))), subst (λ (m : Float). T (lt m (two-to 127))) e (yes (rw two-127 at (c .before .if1 .taken))))
+narrow-normal-requires c κs = (float-to-bits-field (c .before .before), (search needs, search needs))
 
 returns : tie.Need-returns
 returns c = search needs
@@ -34,4 +21,4 @@ returns-2 : tie.Need-returns-2
 returns-2 c = search needs
 
 pub f64-to-f32-spec : {M : Type 1} → statement M
-f64-to-f32-spec = tie.close (tie.spec size-requires narrow-normal-requires returns narrow-any-requires returns-2)
+f64-to-f32-spec = tie.close (tie.spec float-to-bits-field narrow-normal-requires returns narrow-any-requires returns-2)

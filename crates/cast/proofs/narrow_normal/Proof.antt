@@ -8,7 +8,7 @@ use Rattle.cast.proofs.narrow_normal.Statement.{statement}
 use Rattle.cast.proofs.narrow_normal.Tie as tie
 
 known : (c : tie.Start) → Normal (c .args .x)
-known c = normal (c .args .x) (subst T (sym (c .good .0 .1)) tt) (c .pre .0) (c .pre .1)
+known c = normal (c .args .x) (subst T (sym (c .good .0 .1)) tt) (c .pre .0) (c .pre .1 .0) (c .pre .1 .1)
 
 float-to-bits-bits : tie.Need-float-to-bits-bits
 float-to-bits-bits c = known c .number

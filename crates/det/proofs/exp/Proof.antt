@@ -1,47 +1,39 @@
 -- `det::exp` meets its contract. Assumes nothing.
-use mathlib.Core.Path.{_≡_, sym, ap, _∙_, subst}
-use Prim.Native.Nat.{_%_}
-use lib.Ieee.{Float, binary64, mul}
-use lib.Ieee.Fits.{mul-fits}
-use lib.Ieee.Positive.{num, den}
+use mathlib.Core.Path.{_≡_, refl, ap, _∙_}
+use lib.Ieee.{binary64, ofBits}
 use borrow.Author.Needs.{needs}
-use Rattle.det.specs.Exp.{invLn2, powerOfTwo, expOf}
-use Rattle.det.proofs.Small.{rounded-whole}
-use Rattle.det.proofs.Tests.{one-by-zero, cast-read}
+use Rattle.ieee.proofs.Tests.{yes}
+use Rattle.cast.proofs.Normal.{neg-neg}
+use Rattle.det.specs.Exp.{expOf}
+use Rattle.det.proofs.Above.{least, most}
 use Rattle.det.proofs.exp.Statement.{statement}
 use Rattle.det.proofs.exp.Tie as tie
 
+near : ofBits binary64 0x3e10_0000_0000_0000 ≡ least
+unfolding ofBits
+near = refl
+
+far : ofBits binary64 0x4070_0000_0000_0000 ≡ most
+unfolding ofBits
+far = refl
+
+exp-above-requires : tie.Need-exp-above-requires
+exp-above-requires c κs = (yes (rw near at (c .before .if1 .taken)), yes (rw far at (c .if2 .taken)))
+
 returns : tie.Need-returns
-unfolding expOf
-returns c = one-by-zero ∙ rw (c .if1 .taken)
+returns c = search needs
+
+exp-minus-requires : tie.Need-exp-minus-requires
+exp-minus-requires c κs = (yes (rw near at (c .before .if3 .taken)), yes (rw far at (c .if4 .taken)))
 
 returns-2 : tie.Need-returns-2
-unfolding expOf
-returns-2 c = rw (c .before .if1 .left, c .if2 .taken)
+returns-2 c = c .exp-minus .ensures ∙ ap expOf (neg-neg (c .before .before .before .before .args .x))
 
-round-f64-requires : tie.Need-round-f64-requires
-round-f64-requires c κs = search needs
-
-exp-poly-requires : tie.Need-exp-poly-requires
-exp-poly-requires c κs = search needs
-
-whole-to-i64-requires : tie.Need-whole-to-i64-requires
-whole-to-i64-requires c κs =
-    let k = c .before in
-    let y = mul binary64 (k .before .before .before .args .x) invLn2 in
-    subst (λ (w : Float). num w % den w ≡ 0) (sym (k .round-f64 .ensures)) (rounded-whole y (mul-fits binary64 (k .before .before .before .args .x) invLn2))
-
-ldexp2-requires : tie.Need-ldexp2-requires
-ldexp2-requires c κs = search needs
+exp-plain-requires : tie.Need-exp-plain-requires
+exp-plain-requires c κs = search needs
 
 returns-3 : tie.Need-returns-3
-unfolding expOf
-returns-3 c =
-    let i = c .before in
-    let p = i .before in
-    let k = p .before in
-    let power = c .ldexp2 .ensures ∙ ap powerOfTwo (cast-read (i .whole-to-i64 .result) (k .round-f64 .result) (i .whole-to-i64 .ensures)) in
-    rw (power, p .exp-poly .ensures, k .round-f64 .ensures, k .before .before .if1 .left, k .before .if2 .left)
+returns-3 c = search needs
 
 pub exp-spec : {M : Type 1} → statement M
-exp-spec = tie.close (tie.spec returns returns-2 round-f64-requires exp-poly-requires whole-to-i64-requires ldexp2-requires returns-3)
+exp-spec = tie.close (tie.spec exp-above-requires returns exp-minus-requires returns-2 exp-plain-requires returns-3)

@@ -2,6 +2,10 @@
 use mathlib.Core.Path.{_≡_, sym, _∙_}
 use Prim.Native.Nat.{_+_, _≤_, _<_}
 use native.Mathlib.Omega.{arith}
+use mathlib.Core.Bool.{true}
+use lib.ListN.{length}
+use Rattle.control.specs.Moves.{leftFor}
+use Rattle.machine.specs.Machine.{soundOk}
 use Rattle.machine.specs.Laws.{room-enough, room-passed}
 use Rattle.player.specs.Calls.{fills-none, fills-all, fills-late, fills-unsound, set-of, sound-of}
 use borrow.Author.Needs.{needs}
@@ -14,9 +18,9 @@ returns c = let s = (c .before .before .before .before .before .before .before .
     let S = s .args .sheet .now in
     let m = s .pre .0 in
     let room = s .pre .1 in
-    let sound = sym ((c .before .before .before .before .sound-ok) .ensures) ∙ (c .before .before .before .if1) .taken in
-    let left = sym ((c .before .before .positions-left) .ensures) ∙ (c .before .if2) .taken in
-    fills-none S (s .args .c) _ _ _ _ room sound left ((c .if3) .taken)
+    let sound : soundOk S (s .args .c) (s .args .cells .now) (s .args .regs .now) ≡ true = sym ((c .before .before .before .before .sound-ok) .ensures) ∙ (c .before .before .before .if1) .taken in
+    let left : leftFor (s .args .c .position) (length (s .args .out .now)) ≡ true = sym ((c .before .before .positions-left) .ensures) ∙ (c .before .if2) .taken in
+    fills-none S (s .args .c) (s .args .out .now) (s .args .cells .now) (s .args .regs .now) (s .args .scr .now) room sound left ((c .if3) .taken)
 
 -- src/lib.rt:237:17
 run-requires : tie.Need-run-requires
@@ -24,9 +28,9 @@ run-requires c κs = let s = (c .before .before .before .before .before .before 
     let S = s .args .sheet .now in
     let m = s .pre .0 in
     let room = s .pre .1 in
-    let sound = sym ((c .before .before .before .before .before .before .before .before .sound-ok) .ensures) ∙ (c .before .before .before .before .before .before .before .if1) .taken in
-    let left = sym ((c .before .before .before .before .before .before .positions-left) .ensures) ∙ (c .before .before .before .before .before .if2) .taken in
-    (set-of m _ _ _ room, sound-of S (s .args .c) _ _ _ room sound, left)
+    let sound : soundOk S (s .args .c) (s .args .cells .now) (s .args .regs .now) ≡ true = sym ((c .before .before .before .before .before .before .before .before .sound-ok) .ensures) ∙ (c .before .before .before .before .before .before .before .if1) .taken in
+    let left : leftFor (s .args .c .position) (length (s .args .out .now)) ≡ true = sym ((c .before .before .before .before .before .before .positions-left) .ensures) ∙ (c .before .before .before .before .before .if2) .taken in
+    (set-of m (length (s .args .cells .now)) (length (s .args .regs .now)) (length (s .args .scr .now)) room, sound-of S (s .args .c) (s .args .cells .now) (s .args .regs .now) (length (s .args .scr .now)) room sound, left)
 
 -- src/lib.rt:240:13
 clear-requires : tie.Need-clear-requires
@@ -34,7 +38,7 @@ clear-requires c κs = let s = (c .before .before .before .before .before .befor
     let S = s .args .sheet .now in
     let m = s .pre .0 in
     let room = s .pre .1 in
-    let r = room-enough S _ _ _ (room-passed S _ _ _ room .1) in
+    let r = room-enough S (length (s .args .cells .now)) (length (s .args .regs .now)) (length (s .args .scr .now)) (room-passed S _ _ _ room .1) in
     omega (arith, s .pre .2, r .scratch, (c .before .before .before .before .before .before .before .before .before .run) .kept .1 .1 .1 .1 .1 .1 .1 .1 .1 .1 .1 .1 .1 .0)
 
 -- src/lib.rt:241:13
@@ -43,9 +47,9 @@ returns-2 c = let s = (c .before .before .before .before .before .before .before
     let S = s .args .sheet .now in
     let m = s .pre .0 in
     let room = s .pre .1 in
-    let sound = sym ((c .before .before .before .before .before .before .before .before .before .before .before .before .before .before .before .before .before .before .before .before .before .sound-ok) .ensures) ∙ (c .before .before .before .before .before .before .before .before .before .before .before .before .before .before .before .before .before .before .before .before .if1) .taken in
-    let left = sym ((c .before .before .before .before .before .before .before .before .before .before .before .before .before .before .before .before .before .before .before .positions-left) .ensures) ∙ (c .before .before .before .before .before .before .before .before .before .before .before .before .before .before .before .before .before .before .if2) .taken in
-    fills-all S (s .args .c) _ _ _ _ room sound left _ _ _ _ _ _ ((c .before .before .before .before .before .before .before .before .before .before .before .before .before .before .before .before .before .if3) .left) ((c .before .before .before .before .before .before .before .before .before .before .before .before .run) .ensures) (rw (s .pre .2) at ((c .before .before .clear) .ensures))
+    let sound : soundOk S (s .args .c) (s .args .cells .now) (s .args .regs .now) ≡ true = sym ((c .before .before .before .before .before .before .before .before .before .before .before .before .before .before .before .before .before .before .before .before .before .sound-ok) .ensures) ∙ (c .before .before .before .before .before .before .before .before .before .before .before .before .before .before .before .before .before .before .before .before .if1) .taken in
+    let left : leftFor (s .args .c .position) (length (s .args .out .now)) ≡ true = sym ((c .before .before .before .before .before .before .before .before .before .before .before .before .before .before .before .before .before .before .before .positions-left) .ensures) ∙ (c .before .before .before .before .before .before .before .before .before .before .before .before .before .before .before .before .before .before .if2) .taken in
+    fills-all S (s .args .c) (s .args .out .now) (s .args .cells .now) (s .args .regs .now) (s .args .scr .now) room sound left _ _ _ _ _ _ ((c .before .before .before .before .before .before .before .before .before .before .before .before .before .before .before .before .before .if3) .left) ((c .before .before .before .before .before .before .before .before .before .before .before .before .run) .ensures) (rw (s .pre .2) at ((c .before .before .clear) .ensures))
 
 -- src/lib.rt:246:9
 returns-3 : tie.Need-returns-3
@@ -53,8 +57,8 @@ returns-3 c = let s = (c .before .before .before .before .before .before .before
     let S = s .args .sheet .now in
     let m = s .pre .0 in
     let room = s .pre .1 in
-    let sound = sym ((c .before .before .before .sound-ok) .ensures) ∙ (c .before .before .if1) .taken in
-    fills-late S (s .args .c) _ _ _ _ room sound (sym ((c .before .positions-left) .ensures) ∙ (c .if2) .left)
+    let sound : soundOk S (s .args .c) (s .args .cells .now) (s .args .regs .now) ≡ true = sym ((c .before .before .before .sound-ok) .ensures) ∙ (c .before .before .if1) .taken in
+    fills-late S (s .args .c) (s .args .out .now) (s .args .cells .now) (s .args .regs .now) (s .args .scr .now) room sound (sym ((c .before .positions-left) .ensures) ∙ (c .if2) .left)
 
 -- src/lib.rt:205:1
 returns-4 : tie.Need-returns-4
@@ -62,7 +66,7 @@ returns-4 c = let s = (c .before .before .before .before .before .before .before
     let S = s .args .sheet .now in
     let m = s .pre .0 in
     let room = s .pre .1 in
-    fills-unsound S (s .args .c) _ _ _ _ room (sym ((c .before .sound-ok) .ensures) ∙ (c .if1) .left)
+    fills-unsound S (s .args .c) (s .args .out .now) (s .args .cells .now) (s .args .regs .now) (s .args .scr .now) room (sym ((c .before .sound-ok) .ensures) ∙ (c .if1) .left)
 
 pub play-spec : {M : Type 1} → statement M
 play-spec =

@@ -3,7 +3,7 @@ use mathlib.Core.Path.{_∙_}
 use mathlib.Core.List.{[], _∷_}
 use native.Mathlib.Omega.{arith}
 use lib.Seq.{lt-length-sets}
-use Rattle.proc_unit.specs.Lists.{stored}
+use Rattle.tree.specs.Lists.{stored}
 use borrow.Author.Needs.{needs}
 use Rattle.proc_unit.proofs.line_lengths.Statement.{statement}
 use Rattle.proc_unit.proofs.line_lengths.Tie as tie

@@ -1,6 +1,6 @@
 -- `proc_unit::store_drive` meets its contract. Assumes nothing.
 use Rattle.unit.specs.Processors.{driveCells}
-use Rattle.proc_unit.specs.Lists.{stored}
+use Rattle.tree.specs.Lists.{stored}
 use borrow.Author.Needs.{needs}
 use Rattle.proc_unit.proofs.store_drive.Statement.{statement}
 use Rattle.proc_unit.proofs.store_drive.Tie as tie

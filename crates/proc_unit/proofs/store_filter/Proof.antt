@@ -3,7 +3,7 @@ use native.Mathlib.Omega.{arith}
 use lib.ListN.{take}
 use lib.Seq.{length-sets, lt-length-sets}
 use Rattle.unit.specs.Processors.{filterCells}
-use Rattle.proc_unit.specs.Lists.{stored}
+use Rattle.tree.specs.Lists.{stored}
 use borrow.Author.Needs.{needs}
 use Rattle.proc_unit.proofs.store_filter.Statement.{statement}
 use Rattle.proc_unit.proofs.store_filter.Tie as tie

@@ -7,6 +7,7 @@ use lib.ListN.{length}
 use lib.Seq.{length-take-le}
 use borrow.Author.Needs.{needs}
 use Rattle.sheet.specs.Checks.{lengthOk, headerOk}
+use Rattle.sheet.specs.Links.{Rows}
 use Rattle.sheet.specs.Accepted.{sized, checked-one, checked-two, checked-fault, checked-shape, tables-linked}
 use Rattle.sheet.proofs.check.Statement.{statement}
 use Rattle.sheet.proofs.check.Tie as tie
@@ -22,7 +23,8 @@ decode-requires c κs =
     let z = sized _ (sym (c .before .before .before .before .before .before .before .length-ok .ensures) ∙ c .before .before .before .before .before .before .if1 .taken) in
     let e = c .before .before .before .count .ensures .0 in
     let p = c .before .before .before .before .before .before .before .before .before .before .before .before .pre in
-    ((e, omega (arith, z .few, e), omega (arith, z .long, e)), (omega (arith, z .few, e, p .0), omega (arith, z .few, e, p .1), omega (arith, z .few, e, p .2)))
+    let m = p .0 .enough (z .long) (z .few) in
+    ((e, omega (arith, z .few, e), omega (arith, z .long, e)), (omega (arith, e, m), omega (arith, e, m, p .1), omega (arith, e, m, p .2)))
 
 -- after the pass over the records: checks 1 and 2 passed, and the tables have room for all
 module _ (c : tie.After-slice-known6) where
@@ -32,14 +34,17 @@ module _ (c : tie.After-slice-known6) where
   header-is : headerOk (c .before .before .before .before .before .before .before .before .before .before .before .before .before .before .before .before .before .before .before .args .sheet .now) ≡ true
   header-is = sym (c .before .before .before .before .before .before .before .before .before .before .before .before .header-ok .ensures) ∙ c .before .before .before .before .before .before .before .before .before .before .before .if2 .taken
 
+  rows-are : Rows (c .before .before .before .before .before .before .before .before .before .before .before .before .before .before .before .before .before .before .before .args .sheet .now) (length (c .before .before .before .before .before .before .before .before .before .before .before .before .before .before .before .before .before .before .before .args .kinds .now))
+  rows-are = c .before .before .before .before .before .before .before .before .before .before .before .before .before .before .before .before .before .before .before .pre .0
+
   kinds-long : c .before .before .before .before .before .before .before .before .before .before .count .result ≤ length (c .before .before .before .before .before .before .decode .last .1 .1 .0)
-  kinds-long = omega (arith, sized _ length-is .few, c .before .before .before .before .before .before .before .before .before .before .count .ensures .0, c .before .before .before .before .before .before .before .before .before .before .before .before .before .before .before .before .before .before .before .pre .0, c .before .before .before .before .before .before .decode .kept .1 .1 .0)
+  kinds-long = omega (arith, rows-are .enough (sized _ length-is .long) (sized _ length-is .few), c .before .before .before .before .before .before .before .before .before .before .count .ensures .0, c .before .before .before .before .before .before .decode .kept .1 .1 .0)
 
   first-long : c .before .before .before .before .before .before .before .before .before .before .count .result ≤ length (c .before .before .before .before .before .before .decode .last .1 .1 .1 .0)
-  first-long = omega (arith, sized _ length-is .few, c .before .before .before .before .before .before .before .before .before .before .count .ensures .0, c .before .before .before .before .before .before .before .before .before .before .before .before .before .before .before .before .before .before .before .pre .1, c .before .before .before .before .before .before .decode .kept .1 .1 .1 .0)
+  first-long = omega (arith, rows-are .enough (sized _ length-is .long) (sized _ length-is .few), c .before .before .before .before .before .before .before .before .before .before .count .ensures .0, c .before .before .before .before .before .before .before .before .before .before .before .before .before .before .before .before .before .before .before .pre .1, c .before .before .before .before .before .before .decode .kept .1 .1 .1 .0)
 
   next-long : c .before .before .before .before .before .before .before .before .before .before .count .result ≤ length (c .before .before .before .before .before .before .decode .last .1 .1 .1 .1 .0)
-  next-long = omega (arith, sized _ length-is .few, c .before .before .before .before .before .before .before .before .before .before .count .ensures .0, c .before .before .before .before .before .before .before .before .before .before .before .before .before .before .before .before .before .before .before .pre .2, c .before .before .before .before .before .before .decode .kept .1 .1 .1 .1 .0)
+  next-long = omega (arith, rows-are .enough (sized _ length-is .long) (sized _ length-is .few), c .before .before .before .before .before .before .before .before .before .before .count .ensures .0, c .before .before .before .before .before .before .before .before .before .before .before .before .before .before .before .before .before .before .before .pre .2, c .before .before .before .before .before .before .decode .kept .1 .1 .1 .1 .0)
 
 returns : tie.Need-returns
 returns c = let d = c .before in checked-fault _ _ _ _ (length-is d) (header-is d) (c .before .before .before .before .before .before .before .decode .ensures) (c .if3 .taken)

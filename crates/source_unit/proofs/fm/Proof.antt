@@ -10,7 +10,7 @@ use Rattle.source.specs.Oscillators.{fmOf}
 use Rattle.source_block.specs.declared.Fm.{Fm}
 use Rattle.source_block.specs.Steps.{fmStep}
 use Rattle.unit.specs.Sources.{fmUnit}
-use Rattle.value_unit.specs.Lent.{written}
+use Rattle.tree.specs.Lists.{written}
 use Rattle.source_unit.specs.Laws.{two-stored, osc-ran}
 use borrow.Author.Needs.{needs}
 use Rattle.source_unit.proofs.fm.Statement.{statement}
@@ -25,7 +25,7 @@ returns c =
     let s = c .before .before .before .before .before .before .before .before .before .before .before in
     let e = c .before .before .fm-block .ensures in
     λ m rs p. osc-ran (λ (u : Fm). u .cph ∷ u .mph ∷ []) (λ vs b (u : Fm). let r = fmOf (at vs 0) (at vs 1) (s .args .ratio) b (s .args .srf) (u .cph) (u .mph) in (r .out, record { cph = r .cph; mph = r .mph })) _ m (s .args .v .now ∷ s .args .w .now ∷ []) (s .args .pitch .now) (record { cph = at (s .args .cells .now) 0; mph = at (s .args .cells .now) 1 }) (λ k vs x u. refl) p
-    (written nan 2 (s .args .cells .now) (s .pre .3)) (e .0) (two-stored nan (s .args .cells .now) (s .pre .3) ∙ ap (λ (u : Fm). u .cph ∷ u .mph ∷ []) (e .1))
+    (written nan 2 (s .args .cells .now) (s .pre .3)) (e .0) (two-stored (s .args .cells .now) (s .pre .3) ∙ ap (λ (u : Fm). u .cph ∷ u .mph ∷ []) (e .1))
 
 pub fm-spec : {M : Type 1} → statement M
 fm-spec =

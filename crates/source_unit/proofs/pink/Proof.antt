@@ -3,15 +3,14 @@ use mathlib.Core.Path.{_≡_, refl, sym, ap, _∙_}
 use mathlib.Core.List.{[], _∷_}
 use lib.ListN.{length}
 use Rattle.tree.specs.Block.{tab}
-use Rattle.block.specs.Iterate.{after-keeps}
+use Rattle.block.specs.Iterate.{after-keeps, word}
 use Rattle.source.specs.Others.{pinkOf}
 use Rattle.source.specs.declared.Poles.{Poles}
 use Rattle.source_block.specs.declared.Pink.{Pink}
 use Rattle.source_block.specs.Steps.{pinkState, pinkStep}
-use Rattle.unit.specs.Own.{word}
 use Rattle.unit.specs.Sources.{polesOf, pinkUnit}
 use Rattle.unit.specs.Block.{ran-part}
-use Rattle.value_unit.specs.Lent.{written, one-stored}
+use Rattle.tree.specs.Lists.{written, one-stored}
 use borrow.Author.Needs.{needs}
 use Rattle.source_unit.proofs.pink.Statement.{statement}
 use Rattle.source_unit.proofs.pink.Tie as tie
@@ -32,7 +31,7 @@ returns c =
     let q : c .before .before .before .before .before .before .before .poles-of .result ≡ polesOf (s .args .cells .now) = c .before .before .before .before .before .before .before .poles-of .ensures in
     λ m. ran-part (λ (u : Pink). (u .poles .b, u .word ∷ [])) pinkStep pinkUnit m [] (pinkState (word (s .args .regs .now) 0) (c .before .before .before .before .before .before .before .poles-of .result)) (λ k l u. refl)
     (λ i. (sym (ap (λ (p : Poles). p .b) q) i, written 0 1 (s .args .regs .now) (s .pre .1) i)) (e .0)
-    (λ i. ((c .before .before .store-poles .ensures ∙ ap (λ (u : Pink). u .poles .b) (e .1)) i, (one-stored 0 (s .args .regs .now) (s .pre .1) ∙ ap (λ (u : Pink). u .word ∷ []) (e .1)) i))
+    (λ i. ((c .before .before .store-poles .ensures ∙ ap (λ (u : Pink). u .poles .b) (e .1)) i, (one-stored (s .args .regs .now) (s .pre .1) ∙ ap (λ (u : Pink). u .word ∷ []) (e .1)) i))
 
 pub pink-spec : {M : Type 1} → statement M
 pink-spec =

@@ -3,7 +3,7 @@ use mathlib.Core.Path.{sym, ap}
 use lib.Ieee.{nan}
 use Rattle.tree.specs.Block.{tab}
 use Rattle.unit.specs.Sources.{polesOf}
-use Rattle.value_unit.specs.Lent.{written}
+use Rattle.tree.specs.Lists.{written}
 use borrow.Author.Needs.{needs}
 use Rattle.source_unit.proofs.poles_of.Statement.{statement}
 use Rattle.source_unit.proofs.poles_of.Tie as tie

@@ -7,7 +7,7 @@ use Rattle.block.specs.Iterate.{at}
 use Rattle.source.specs.Oscillators.{squareOf}
 use Rattle.source_block.specs.Steps.{squareStep}
 use Rattle.unit.specs.Sources.{squareUnit}
-use Rattle.value_unit.specs.Lent.{written, one-stored}
+use Rattle.tree.specs.Lists.{written, one-stored}
 use Rattle.source_unit.specs.Laws.{osc-ran}
 use borrow.Author.Needs.{needs}
 use Rattle.source_unit.proofs.square.Statement.{statement}
@@ -19,7 +19,7 @@ returns c =
     let s = c .before .before .before .before .before .before .before .before .before .before in
     let e = c .before .before .square-block .ensures in
     λ m rs p. osc-ran (λ u. u ∷ []) (λ vs b u. let r = squareOf (at vs 0) (at vs 1) b (s .args .srf) u in (r .out, r .phase)) _ m (s .args .v .now ∷ s .args .w .now ∷ []) (s .args .pitch .now) (at (s .args .cells .now) 0) (λ k vs x u. refl) p
-    (written nan 1 (s .args .cells .now) (s .pre .3)) (e .0) (one-stored nan (s .args .cells .now) (s .pre .3) ∙ ap (λ u. u ∷ []) (e .1))
+    (written nan 1 (s .args .cells .now) (s .pre .3)) (e .0) (one-stored (s .args .cells .now) (s .pre .3) ∙ ap (λ u. u ∷ []) (e .1))
 
 pub square-spec : {M : Type 1} → statement M
 square-spec =

@@ -1,14 +1,13 @@
 -- `start::cells` meets its contract. By the kind. Assumes nothing.
-use mathlib.Core.Path.{_≡_, sym, ap, _∙_}
+use mathlib.Core.Path.{sym, ap, _∙_}
 use Prim.Native.Nat.{_+_, _*_}
 use native.Mathlib.Omega.{arith}
-use lib.ListN.{replicate}
-use Rattle.float.specs.Single.{zero as zeroF}
 use Rattle.sheet.specs.Laws.{rest}
 use Rattle.sheet.specs.Record.{numberOf}
 use Rattle.layout.specs.Needs.{needOf, voicesOf, cellsBy}
+use Rattle.unit.specs.Laws.{filter-need}
 use Rattle.unit.specs.Start.{superStart, startCells}
-use Rattle.start.specs.Cells.{record-room, filter-need, filter-start, low-start}
+use Rattle.start.specs.Cells.{zeroed, record-room, filter-start, low-start}
 use borrow.Author.Needs.{needs}
 use Rattle.start.proofs.cells.Statement.{statement}
 use Rattle.start.proofs.cells.Tie as tie
@@ -41,7 +40,7 @@ returns c =
 returns-2 : tie.Need-returns-2
 returns-2 c =
     let s = (c .before .before .before .before .before .before .before .before .before .before) in
-    (c .before .before) .zeros .ensures ∙ ap (λ n. replicate n zeroF) (s .pre .6)
+    zeroed (s .args .own .now) ((c .before .before) .fill-block .ensures) (s .pre .6)
     ∙ sym (low-start (s .args .sheet .now) (s .args .i) (s .pre .5) (λ e. (c .before .before .before .before .before) .if1 .left (s .pre .4 ∙ e)) (omega (arith, s .pre .4, (c .before .before .before .before) .if2 .taken)))
 
 returns-3 : tie.Need-returns-3

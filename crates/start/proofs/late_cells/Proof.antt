@@ -1,17 +1,15 @@
 -- `start::late_cells` meets its contract. By the kind. Assumes nothing.
-use mathlib.Core.Path.{_≡_, sym, ap, _∙_}
+use mathlib.Core.Path.{sym, ap, _∙_}
 use Prim.Native.Nat.{_+_, _*_}
 use native.Mathlib.Omega.{arith}
 use lib.IntN.{pos}
-use lib.ListN.{replicate}
 use lib.Ieee.{binary32, ofInt}
-use Rattle.float.specs.Single.{zero as zeroF}
 use Rattle.sheet.specs.Laws.{rest}
 use Rattle.sheet.specs.Record.{optionOf, numberOf, recordAt}
 use Rattle.layout.specs.Needs.{needOf, cellsBy}
 use Rattle.layout.specs.Tables.{first-entry}
 use Rattle.unit.specs.Start.{driveStart, compressStart, randStart, startCells}
-use Rattle.start.specs.Cells.{record-room, chainStart, high-start}
+use Rattle.start.specs.Cells.{zeroed, record-room, chainStart, high-start}
 use borrow.Author.Needs.{needs}
 use Rattle.start.proofs.late_cells.Statement.{statement}
 use Rattle.start.proofs.late_cells.Tie as tie
@@ -78,7 +76,7 @@ returns-5 : tie.Need-returns-5
 returns-5 c =
     let s = (c .before .before .before .before .before .before .before .before .before) in
     let n = (c .before .before .before .before) .match .rest in
-    (c .before .before) .zeros .ensures ∙ ap (λ n. replicate n zeroF) (s .pre .6)
+    zeroed (s .args .own .now) ((c .before .before) .fill-block .ensures) (s .pre .6)
     ∙ sym (high-start (s .args .sheet .now) (s .args .i) (s .pre .5) (omega (arith, s .pre .4, s .pre .7)) (λ e. n .0 .0 .0 .1 (s .pre .4 ∙ e)) (λ e. n .0 .0 .1 (s .pre .4 ∙ e)) (λ e. n .0 .1 (s .pre .4 ∙ e)) (λ e. n .1 (s .pre .4 ∙ e)))
 
 pub late-cells-spec : {M : Type 1} → statement M

@@ -5,21 +5,20 @@ use native.Mathlib.Omega.{arith}
 use lib.ListN.{length}
 use lib.Ieee.{Float}
 use Rattle.float.specs.Single.{zero}
-use Rattle.block.specs.Iterate.{given-same}
-use Rattle.value_block.specs.Steps.{constantStep}
+use Rattle.block.specs.Iterate.{given-still}
 use Rattle.value_unit.specs.Laws.{stepsFrom, arpStep, steps-length, arp-none}
 use borrow.Author.Needs.{needs}
 use Rattle.value_unit.proofs.arp.Statement.{statement}
 use Rattle.value_unit.proofs.arp.Tie as tie
 
 returns : tie.Need-returns
-unfolding constantStep arpStep
+unfolding arpStep
 returns c =
     let s = c .before .before .before .before .before .before .before .before .before in
     let steps = stepsFrom (s .args .sheet .now) (s .args .first) in
     let z : length steps ≡ 0 = steps-length (s .args .sheet .now) (s .args .first) ∙ sym (c .before .before .before .before .before .chain-length .ensures .0) ∙ c .before .before .before .before .if1 .taken in
-    c .before .before .constant-block .ensures ∙ given-same (constantStep zero) (arpStep steps (s .args .rate) (s .args .srf) (s .args .t)) tt (length (s .args .out .now))
-    (λ k l u. ap {B = Float × Unit {0}} (λ x. (x, u)) (arp-none steps (s .args .rate) (s .args .srf) (s .args .t + k) z))
+    c .before .before .fill-block .ensures ∙ sym (given-still (arpStep steps (s .args .rate) (s .args .srf) (s .args .t)) zero
+    (λ k u. ap {B = Float × Unit {0}} (λ x. (x, u)) (sym (arp-none steps (s .args .rate) (s .args .srf) (s .args .t + k) z))) tt (s .args .out .now))
 
 arp-steps-requires : tie.Need-arp-steps-requires
 arp-steps-requires c κs =

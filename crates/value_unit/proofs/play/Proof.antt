@@ -1,16 +1,16 @@
 -- `value_unit::play` meets its contract. By the case of the record. Assumes nothing.
-use mathlib.Core.Path.{refl, sym, _∙_}
+use mathlib.Core.Path.{sym, _∙_}
 use Prim.Native.Nat.{_+_, _*_, _<_}
 use native.Mathlib.Omega.{arith}
 use Rattle.sheet.specs.Record.{recordAt}
 use Rattle.sheet.specs.Laws.{rest}
 use Rattle.layout.specs.Needs.{needOf}
 use Rattle.layout.specs.Tables.{first-low}
-use Rattle.value_block.specs.Steps.{constantStep, slideStep, lfoStep, envModStep}
+use Rattle.value_block.specs.Steps.{slideStep, lfoStep, envModStep}
 use Rattle.unit.specs.Values.{valueUnit}
 use Rattle.unit.specs.Block.{moment-position}
 use Rattle.value_unit.specs.Lent.{lent-cells, lent-registers}
-use Rattle.value_unit.specs.Laws.{arpStep, arp-first, told, value-is, told-kind, stateless-ran}
+use Rattle.value_unit.specs.Laws.{arpStep, arp-first, told, value-is, told-kind, stateless-ran, constant-ran}
 use borrow.Author.Needs.{needs}
 use Rattle.value_unit.proofs.play.Statement.{statement}
 use Rattle.value_unit.proofs.play.Tie as tie
@@ -31,11 +31,11 @@ rand-requires c κs =
     (lent-cells (s .pre .0) 46 k, lent-registers (s .pre .0) 46 k)
 
 returns : tie.Need-returns
-unfolding valueUnit constantStep
+unfolding valueUnit
 returns c =
     let s = c .before .before .before .before .before .before .before .before .before .before .before .before .before .before .before in
     let e = told (rest (s .args .sheet .now) (24 + 40 * s .args .i)) (c .before .before .before .before .before .before .before .read-value .ensures) (c .before .before .before .before .before .v .given .1) in
-    rw (value-is (s .pre .0) (s .pre .3) e) (stateless-ran _ _ (s .args .c) (c .before .before .constant-block .ensures) (λ k. refl))
+    rw (value-is (s .pre .0) (s .pre .3) e) (constant-ran _ (s .args .c) (c .before .before .fill-block .ensures))
 
 returns-2 : tie.Need-returns-2
 unfolding valueUnit slideStep

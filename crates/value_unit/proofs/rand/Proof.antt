@@ -9,7 +9,7 @@ use Rattle.value.specs.declared.Rand.{Rand as Walk}
 use Rattle.value_block.specs.Steps.{randStep}
 use Rattle.unit.specs.Values.{walkOf, walkOwn, randUnit}
 use Rattle.unit.specs.Block.{ran-part}
-use Rattle.value_unit.specs.Lent.{written, one-stored}
+use Rattle.tree.specs.Lists.{written, one-stored}
 use Rattle.value_unit.specs.Laws.{three-stored}
 use borrow.Author.Needs.{needs}
 use Rattle.value_unit.proofs.rand.Statement.{statement}
@@ -28,7 +28,7 @@ returns c =
     let e = c .before .before .rand-block .ensures in
     λ m. rw (← (c .before .before .before .rand-increment .ensures)) (ran-part walkOwn (randStep (c .before .before .before .rand-increment .result) (s .args .from) (s .args .to)) (randUnit (c .before .before .before .rand-increment .result) (s .args .from) (s .args .to)) m [] (walkOf (s .args .cells .now, s .args .regs .now)) (λ k l u. refl)
     (λ i. (written nan 3 (s .args .cells .now) (s .pre .0) i, written 0 1 (s .args .regs .now) (s .pre .1) i)) (e .0)
-    (λ i. ((three-stored nan (s .args .cells .now) (s .pre .0) ∙ ap (λ (u : Walk). u .prev ∷ u .next ∷ u .phase ∷ []) (e .1)) i, (one-stored 0 (s .args .regs .now) (s .pre .1) ∙ ap (λ (u : Walk). u .word ∷ []) (e .1)) i)))
+    (λ i. ((three-stored (s .args .cells .now) (s .pre .0) ∙ ap (λ (u : Walk). u .prev ∷ u .next ∷ u .phase ∷ []) (e .1)) i, (one-stored (s .args .regs .now) (s .pre .1) ∙ ap (λ (u : Walk). u .word ∷ []) (e .1)) i)))
 
 pub rand-spec : {M : Type 1} → statement M
 rand-spec =

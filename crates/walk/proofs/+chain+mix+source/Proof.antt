@@ -1,6 +1,6 @@
 -- `walk::source`, `walk::chain` and `walk::mix` meet their contracts: N minus the record falls round the cycle. Assumes nothing.
 use mathlib.Core.Path.{_≡_, sym, ap, _∙_}
-use Prim.Native.Nat.{_-_, _+_, _*_, _≤_}
+use Prim.Native.Nat.{_-_, _+_, _*_}
 use native.Mathlib.Omega.{arith}
 use lib.ListN.{length}
 use Rattle.sheet.specs.Record.{countOf, kind}
@@ -23,10 +23,10 @@ use Rattle.walk.proofs.+chain+mix+source.Lts-mix as mix-lts
 use Rattle.walk.proofs.source.Reads as source
 use Rattle.walk.proofs.source.Kinds as source-kinds
 use Rattle.walk.proofs.+chain+mix+source.Lts-source as source-lts
+use Rattle.block.proofs.fill_block.Reads as fill-block-reads
+use Rattle.sheet.proofs.kind_at.Reads as kind-at-reads
 use Rattle.walk.proofs.empty.Reads as empty-reads
-use Rattle.walk.proofs.fill_block.Reads as fill-block-reads
 use Rattle.walk.proofs.is_fold.Reads as is-fold-reads
-use Rattle.walk.proofs.kind_at.Reads as kind-at-reads
 use Rattle.walk.proofs.leaf.Reads as leaf-reads
 use Rattle.walk.proofs.scratch_fill.Reads as scratch-fill-reads
 use Rattle.walk.proofs.scratch_join.Reads as scratch-join-reads
@@ -313,11 +313,8 @@ mix-kind-at-requires : (t : ℕ) → mix-lts.Need-kind-at-requires (
 mix-kind-at-requires t c κs = let s = (c .before .before .before .before .before .before .before .before .before .before .before .before .before .before .before) in
     let R = s .pre .1 .0 in
     let vo = R .voiced in
-    let S = s .args .sheet .now in
-    let i = s .args .i in
     let hi = s .pre .1 .3 in
-    let h : i < countOf S = omega (arith, hi, vo .passed .count) in
-    (h, omega (arith, vo .passed .count, vo .passed .small), omega (arith, vo .passed .count, vo .passed .long))
+    omega (arith, hi, vo .passed .long)
 
 -- src/lib.rt:306:5
 mix-loop-holds : (t : ℕ) → mix-lts.Need-loop-holds (
@@ -533,11 +530,8 @@ source-kind-at-requires : (t : ℕ) → source-lts.Need-kind-at-requires (
 source-kind-at-requires t c κs = let s = (c .before .before .before .before .before .before .before .before .before .before .before .before .before .before .before) in
     let R = s .pre .1 .0 in
     let vo = R .voiced in
-    let S = s .args .sheet .now in
-    let i = s .args .i in
     let hi = s .pre .1 .3 in
-    let h : i < countOf S = omega (arith, hi, vo .passed .count) in
-    (h, omega (arith, vo .passed .count, vo .passed .small), omega (arith, vo .passed .count, vo .passed .long))
+    omega (arith, hi, vo .passed .long)
 
 -- src/lib.rt:225:9
 source-scratch-fill-requires : (t : ℕ) → source-lts.Need-scratch-fill-requires (

@@ -1,6 +1,5 @@
 -- `walk::empty` meets its contract. Assumes nothing.
-use mathlib.Core.Path.{_≡_, _∙_}
-use Prim.Native.Nat.{_-_, _+_, _*_, _≤_, _<_}
+use Prim.Native.Nat.{_-_}
 use borrow.Author.Tests.{eq-eqb, ne-eqb}
 use Rattle.walk.proofs.empty.Statement.{statement}
 use Rattle.walk.proofs.empty.Tie as tie

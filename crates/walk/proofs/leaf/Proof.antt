@@ -1,6 +1,6 @@
 -- `walk::leaf` meets its contract. Assumes nothing.
 use mathlib.Core.Path.{_≡_, refl, sym, ap, _∙_}
-use Prim.Native.Nat.{_+_, _*_, _≤_, _<_}
+use Prim.Native.Nat.{_<_}
 use native.Mathlib.Omega.{arith}
 use lib.ListN.{getD}
 use Rattle.sheet.specs.Record.{countOf, kind}
@@ -28,11 +28,8 @@ kind-at-requires : tie.Need-kind-at-requires
 kind-at-requires c κs = let s = (c .before .before .before .before .before .before .before .before .before .before .before .before .before .before .before) in
     let R = s .pre .0 in
     let vo = R .voiced in
-    let S = s .args .sheet .now in
-    let i = s .args .i in
     let hi = s .pre .1 in
-    let h : i < countOf S = omega (arith, vo .passed .count) in
-    (h, omega (arith, vo .passed .count, vo .passed .small), omega (arith, vo .passed .count, vo .passed .long))
+    omega (arith, hi, vo .passed .long)
 
 -- src/lib.rt:184:9
 own-requires : tie.Need-own-requires

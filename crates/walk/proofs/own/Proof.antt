@@ -1,6 +1,6 @@
 -- `walk::own` meets its contract: the tables say which parts are the record's own. Assumes nothing.
-use mathlib.Core.Path.{_≡_, _∙_}
-use Prim.Native.Nat.{_+_, _-_, _*_, _≤_, _<_}
+use mathlib.Core.Path.{_∙_}
+use Prim.Native.Nat.{_-_, _<_}
 use native.Mathlib.Omega.{arith}
 use lib.ListN.{length-take, length-drop}
 use Rattle.sheet.specs.Record.{countOf}
@@ -13,7 +13,7 @@ kind-at-requires : tie.Need-kind-at-requires
 kind-at-requires c κs =
     let p = c .before .before .before .before .before .before .before .before .before .before .pre .0 .voiced .passed in
     let h = c .before .before .before .before .before .before .before .before .before .before .pre .0 .inside in
-    (omega (arith, p .count), omega (arith, p .count, p .small), omega (arith, p .count, p .long))
+    omega (arith, h, p .count, p .long)
 
 mul-play : tie.Need-mul-play
 mul-play c =

@@ -1,19 +1,26 @@
--- `layout::needs::registers_of` meets its contract. By cases. Assumes nothing.
-use mathlib.Core.Path.{_≡_, sym, _∙_}
+-- `layout::needs::registers_of` meets its contract. By the kind's row, and no row for the others. Assumes nothing.
+use mathlib.Core.Path.{sym}
 use native.Mathlib.Omega.{arith}
-use lib.ListN.{getD, List·getD-eq-default}
-use Rattle.layout.specs.Counts.{registers-fixed, registersTable}
-use borrow.Author.Needs.{needs}
+use borrow.Author.Tests.{ne-eqb}
+use Rattle.layout.specs.Needs.{needOf}
 use Rattle.layout.proofs.needs.registers_of.Statement.{statement}
 use Rattle.layout.proofs.needs.registers_of.Tie as tie
 
-returns : tie.Need-returns
-returns c = registers-fixed ((c .before) .args .k)
-
-returns-2 : tie.Need-returns-2
-returns-2 c =
-    let s = c .before in
-    let z : getD registersTable (s .args .k) 0 ≡ 0 = List·getD-eq-default registersTable 0 {n = c .before .args .k} (omega arith) in (sym z ∙ registers-fixed (s .args .k) .0, omega arith)
+returns-7 : tie.Need-returns-7
+unfolding needOf
+returns-7 c =
+    let n = (c .match) .rest in
+    (rw (ne-eqb 9 _ (λ e. n .0 .0 .0 .0 .0 .1 (sym e)), ne-eqb 10 _ (λ e. n .0 .0 .0 .0 .1 (sym e)), ne-eqb 29 _ (λ e. n .0 .0 .0 .1 (sym e)), ne-eqb 30 _ (λ e. n .0 .0 .1 (sym e)), ne-eqb 34 _ (λ e. n .0 .1 (sym e)), ne-eqb 46 _ (λ e. n .1 (sym e))), omega arith)
 
 pub registers-of-spec : {M : Type 1} → statement M
-registers-of-spec = tie.close (tie.spec (λ c. search needs) (λ c. search needs) returns returns-2)
+unfolding needOf
+registers-of-spec =
+    tie.close
+    (tie.spec
+    (λ c. (rw ((c .match) .keys1), omega arith))
+    (λ c. (rw ((c .match) .keys2), omega arith))
+    (λ c. (rw ((c .match) .keys3), omega arith))
+    (λ c. (rw ((c .match) .keys4), omega arith))
+    (λ c. (rw ((c .match) .keys5), omega arith))
+    (λ c. (rw ((c .match) .keys6), omega arith))
+    returns-7)

@@ -6,7 +6,7 @@ use Prim.Native.Nat.{ℕ}
 use lib.ListN.{length}
 use borrow.Author.Needs.{needs}
 use Rattle.sheet.specs.Links.{LinksIn, LinkedIn, onceIn}
-use Rattle.sheet.specs.LinkLaws.{first-below, linked-of, shape-five, shape-six, shape-seven, shape-none}
+use Rattle.sheet.specs.LinkLaws.{linked-of, shape-five, shape-six, shape-seven, shape-none}
 use Rattle.sheet.proofs.checks.shape.Statement.{statement}
 use Rattle.sheet.proofs.checks.shape.Tie as tie
 
@@ -17,24 +17,24 @@ linked-in l e o = record { linked = linked-of (l .links) o; kinds-long = e; next
 chains-ok-requires : tie.Need-chains-ok-requires
 chains-ok-requires c κs = let s = c .before .before .before .before .before in linked-in (s .pre .0) (s .pre .1 .0) (sym (c .before .once .ensures) ∙ c .if1 .taken)
 
-deeper-requires : tie.Need-deeper-requires
-deeper-requires c κs =
-    let s = c .before .before .before .before .before .before .before .before .before .before in
-    (linked-in (s .pre .0) (s .pre .1 .0) (sym (c .before .before .before .before .before .before .once .ensures) ∙ c .before .before .before .before .before .if1 .taken), first-below (s .pre .0 .links) (s .pre .1 .1) 0)
+too-deep-requires : tie.Need-too-deep-requires
+too-deep-requires c κs =
+    let s = c .before .before .before .before .before .before .before .before .before in
+    (linked-in (s .pre .0) (s .pre .1 .0) (sym (c .before .before .before .before .before .once .ensures) ∙ c .before .before .before .before .if1 .taken), s .pre .1 .1)
 
 returns : tie.Need-returns
 returns c =
-    let links = c .before .before .before .before .before .before .before .before .before .before .before .before .pre .0 .links in
-    let once = sym (c .before .before .before .before .before .before .before .before .once .ensures) ∙ c .before .before .before .before .before .before .before .if1 .taken in
-    let chains = sym (ap₂ _&&_ (c .before .before .before .before .before .before .chains-ok .ensures) (c .before .before .before .before .is-node .ensures)) ∙ c .before .before .before .if2 .taken in
-    shape-seven _ _ _ _ links once chains (sym (c .before .deeper .ensures) ∙ c .if3 .taken)
+    let links = c .before .before .before .before .before .before .before .before .before .before .before .pre .0 .links in
+    let once = sym (c .before .before .before .before .before .before .before .once .ensures) ∙ c .before .before .before .before .before .before .if1 .taken in
+    let chains = sym (ap₂ _&&_ (c .before .before .before .before .before .chains-ok .ensures) (c .before .before .before .is-node .ensures)) ∙ c .before .before .if2 .taken in
+    shape-seven _ _ _ _ links once chains (sym (c .before .too-deep .ensures) ∙ c .if3 .taken)
 
 returns-2 : tie.Need-returns-2
 returns-2 c =
-    let links = c .before .before .before .before .before .before .before .before .before .before .before .before .pre .0 .links in
-    let once = sym (c .before .before .before .before .before .before .before .before .once .ensures) ∙ c .before .before .before .before .before .before .before .if1 .taken in
-    let chains = sym (ap₂ _&&_ (c .before .before .before .before .before .before .chains-ok .ensures) (c .before .before .before .before .is-node .ensures)) ∙ c .before .before .before .if2 .taken in
-    shape-none _ _ _ _ links once chains (sym (c .before .deeper .ensures) ∙ c .if3 .left)
+    let links = c .before .before .before .before .before .before .before .before .before .before .before .pre .0 .links in
+    let once = sym (c .before .before .before .before .before .before .before .once .ensures) ∙ c .before .before .before .before .before .before .if1 .taken in
+    let chains = sym (ap₂ _&&_ (c .before .before .before .before .before .chains-ok .ensures) (c .before .before .before .is-node .ensures)) ∙ c .before .before .if2 .taken in
+    shape-none _ _ _ _ links once chains (sym (c .before .too-deep .ensures) ∙ c .if3 .left)
 
 returns-3 : tie.Need-returns-3
 returns-3 c =
@@ -52,8 +52,7 @@ shape-spec =
     chains-ok-requires
     (λ c. search needs)
     (λ c κs. search needs)
-    (λ c. search needs)
-    deeper-requires
+    too-deep-requires
     returns
     returns-2
     returns-3

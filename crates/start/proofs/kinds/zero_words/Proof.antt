@@ -4,7 +4,7 @@ use Prim.Native.Nat.{_-_}
 use native.Mathlib.Omega.{arith}
 use lib.ListN.{length}
 use Rattle.tree.specs.Block.{Filled, fill-start, fill-turn, fill-end}
-use Rattle.start.specs.Cells.{tab-same}
+use Rattle.tree.specs.Lists.{tab-same}
 use borrow.Author.Needs.{needs}
 use Rattle.start.proofs.kinds.zero_words.Statement.{statement}
 use Rattle.start.proofs.kinds.zero_words.Tie as tie

@@ -6,7 +6,7 @@ use native.Mathlib.Omega.{arith}
 use borrow.Author.Tests.{lt-ltb, le-ltb}
 use Rattle.sheet.specs.Checks.{all}
 use Rattle.sheet.specs.Laws.{all-suc}
-use Rattle.unit.specs.Own.{word}
+use Rattle.block.specs.Iterate.{word}
 use Rattle.unit.specs.Processors.{reverbLines}
 use Rattle.state.specs.Rings.{placeTest, all-not}
 use borrow.Author.Needs.{needs}

@@ -1,0 +1,3 @@
+pub mod Wav
+pub mod Laws
+pub mod Cases
