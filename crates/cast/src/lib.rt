@@ -9,11 +9,19 @@ ghost use Rattle.cast.specs.Narrow.{narrowOf};
 
 // ---- whole numbers to floats: the nearest, a tie to the even one
 
+// Exact. Through i32, the one whole type that every x86-64 converts several at a time.
+pub fn small_to_f32(n: u64) -> f32
+    requires { ⌜ n < 16777216 ⌝ }
+    ensures { λ r. ⌜ r ≡ Ieee.ofInt binary32 (pos n) ⌝ }
+{
+    (n as i32) as f32
+}
+
 pub fn u64_to_f32(n: u64) -> f32
     ensures { λ r. ⌜ r ≡ Ieee.ofInt binary32 (pos n) ⌝ }
 {
     if n < 16777216 {
-        return n as f32;
+        return small_to_f32(n);
     }
     let k = 40 - (u64::leading_zeros(n) as u64);
     let q = ieee::closest_shift(n, k);

@@ -208,7 +208,7 @@ fn sound_ok(
     state::rings_ok(sheet, count, acts, places, words, cells, regs)
 }
 
-// The buffers of a fill: the values of a record, and the pitch.
+// The buffers of a fill, for the values of a record and the pitch: smaller ones, which are zeroed sooner, for a short fill.
 fn run(
     sheet: &[u8],
     count: usize,
@@ -228,6 +228,30 @@ fn run(
     requires { ⌜ Set (now sheet) count (now nexts) (now acts) (now begins) (now afters) (now places) (now words) (now blocks) (length (now scr)) × Sound (now sheet) (now cells) (now regs) × (leftFor (c .position) (length (now out)) ≡ true) ⌝ }
     ensures { λ r. ⌜ Blocked (now (sheet .entry)) (length (now (out .entry))) c (now (cells .entry)) (now (regs .entry)) (now (scr .entry)) r (now (out .exit)) (now (cells .exit)) (now (regs .exit)) (now (scr .exit)) ⌝ }
 {
+    if out.len() <= 64 {
+        let mut v = [0.0f32; 64];
+        let mut w = [0.0f32; 64];
+        let mut pitch = [0.0f32; 64];
+        return streaming::run(
+            sheet,
+            count,
+            nexts,
+            acts,
+            begins,
+            afters,
+            places,
+            words,
+            blocks,
+            c,
+            out,
+            &mut v,
+            &mut w,
+            &mut pitch,
+            cells,
+            regs,
+            scr,
+        );
+    }
     let mut v = [0.0f32; 256];
     let mut w = [0.0f32; 256];
     let mut pitch = [0.0f32; 256];

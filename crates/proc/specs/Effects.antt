@@ -83,13 +83,15 @@ averageOf shape xn f xPrev fPrev =
     let d = xn ⊖ xPrev in
     cond (lt (ofBits binary32 0x3727_c5ac) (absOf d)) ((f ⊖ fPrev) ⊘ d) (driveOf shape (half ⊗ (xn ⊕ xPrev)))
 
-unfoldable pub driveStep : DriveShape → Float → Drive → Float → DriveOut
-driveStep shape amount s x =
-    let xn = driven amount x in
-    let f = antiderivativeOf shape xn in
+-- from the amplified sample and its antiderivative
+unfoldable pub driveBy : DriveShape → Float → Float → Drive → DriveOut
+driveBy shape xn f s =
     let y = averageOf shape xn f (s .«x_prev») (s .«f_prev») in
     let yb = y ⊖ s .«dc_x» ⊕ ofBits binary32 0x3f7f_df3b ⊗ s .«dc_y» in
     record { out = yb; drive = record { «x_prev» = xn; «f_prev» = f; «dc_x» = y; «dc_y» = yb } }
+
+unfoldable pub driveStep : DriveShape → Float → Drive → Float → DriveOut
+driveStep shape amount s x = let xn = driven amount x in driveBy shape xn (antiderivativeOf shape xn) s
 
 unfoldable pub drivePlain : DriveShape → Float → Float → Float
 drivePlain shape amount x = driveOf shape (driven amount x)

@@ -1,7 +1,7 @@
 // The processors for one sample: values in, a struct of the sample and the new state out.
 ghost use mathlib.Core.Path.{_≡_};
 ghost use Prim.Native.Nat.{_<_};
-ghost use Rattle.proc.specs.Effects.{gainOf, tuned, biquadStep, filterOf, delayOf, nextPlace, combOf, allpassOf, reverbMix, modeOf, driven, driveStep, drivePlain, lfoAt, tremoloOf, chorusRead, chorusOf, compressLevel, compressGain, compressOf};
+ghost use Rattle.proc.specs.Effects.{gainOf, tuned, biquadStep, filterOf, delayOf, nextPlace, combOf, allpassOf, reverbMix, modeOf, driven, driveBy, driveStep, drivePlain, lfoAt, tremoloOf, chorusRead, chorusOf, compressLevel, compressGain, compressOf};
 
 // A filter's eleven cells, in the sheet's order.
 pub struct Filter {
@@ -191,7 +191,7 @@ pub fn mode_step(m: Mode, x: f32) -> ModeOut
     ModeOut { out: y, mode: next }
 }
 
-fn amplified(amount: f32, x: f32) -> f32
+pub fn amplified(amount: f32, x: f32) -> f32
     ensures { λ r. ⌜ r ≡ driven amount x ⌝ }
 {
     float::max0(amount) * x
@@ -208,11 +208,10 @@ fn averaged(shape: dsl::DriveShape, xn: f32, f: f32, x_prev: f32, f_prev: f32) -
     render::drive_curve(0.5 * (xn + x_prev), shape)
 }
 
-pub fn drive_step(shape: dsl::DriveShape, amount: f32, s: Drive, x: f32) -> DriveOut
-    ensures { λ r. ⌜ r ≡ driveStep shape amount s x ⌝ }
+// From the amplified sample and its antiderivative: the average, and a DC blocker.
+pub fn drive_by(shape: dsl::DriveShape, xn: f32, f: f32, s: Drive) -> DriveOut
+    ensures { λ r. ⌜ r ≡ driveBy shape xn f s ⌝ }
 {
-    let xn = amplified(amount, x);
-    let f = render::drive_antideriv(xn, shape);
     let y = averaged(shape, xn, f, s.x_prev, s.f_prev);
     let yb = y - s.dc_x + 0.9995 * s.dc_y;
     let next = Drive {
@@ -225,6 +224,13 @@ pub fn drive_step(shape: dsl::DriveShape, amount: f32, s: Drive, x: f32) -> Driv
         out: yb,
         drive: next,
     }
+}
+
+pub fn drive_step(shape: dsl::DriveShape, amount: f32, s: Drive, x: f32) -> DriveOut
+    ensures { λ r. ⌜ r ≡ driveStep shape amount s x ⌝ }
+{
+    let xn = amplified(amount, x);
+    drive_by(shape, xn, render::drive_antideriv(xn, shape), s)
 }
 
 pub fn drive_plain(shape: dsl::DriveShape, amount: f32, x: f32) -> f32

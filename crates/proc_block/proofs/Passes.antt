@@ -1,12 +1,18 @@
--- Compress in two passes is Compress. Assumes nothing.
+-- Compress in two passes is Compress, and Drive by tanh in four is Drive. Assumes nothing.
 use mathlib.Core.Path.{_≡_, refl, sym, ap, _∙_}
 use mathlib.Core.List.{List}
 use Prim.Native.Nat.{ℕ, zero, suc, _<_}
+use native.Mathlib.Omega.{arith}
+use lib.ListN.{length}
 use lib.Ieee.{Float, nan}
 use Rattle.tree.specs.Block.{tab-eq}
-use Rattle.block.specs.Iterate.{at, after, given, sampleAt, given-at}
-use Rattle.proc.specs.Effects.{compressGain, compressOf}
-use Rattle.proc_block.specs.Steps.{compressStep, levelStep, levelGainStep}
+use Rattle.block.specs.Iterate.{at, after, given, sampleAt, given-length, given-at, after-same, given-same}
+use Rattle.dsl.specs.declared.DriveShape.the-variants.{Tanh}
+use Rattle.render.specs.Drive.{lnCosh, antiderivativeOf}
+use Rattle.proc.specs.declared.Drive.{Drive}
+use Rattle.proc.specs.declared.DriveOut.{DriveOut}
+use Rattle.proc.specs.Effects.{driven, driveBy, driveStep, compressGain, compressOf}
+use Rattle.proc_block.specs.Steps.{drivenStep, decayStep, lnCoshStep, driveByStep, driveStepAt, compressStep, levelStep, levelGainStep}
 
 module _ (xs : List Float) (attack release threshold ratio makeup env : Float) where
   abbrev whole : ℕ → Float → Float × Float
@@ -27,3 +33,36 @@ module _ (xs : List Float) (attack release threshold ratio makeup env : Float) w
   pub given-levels : (n : ℕ) → given whole env n ≡ given (levelGainStep xs (given first env n) makeup) tt n
   unfolding given
   given-levels n = tab-eq n (sampleAt whole env) (sampleAt (levelGainStep xs (given first env n) makeup) tt) (level-is n)
+
+-- ys are the amplified samples, ds their decays, in a buffer of n, and fs their antiderivatives
+module _ (xs amount ys ds fs : List Float) (n : ℕ) (long : n ≡ length xs)
+    (is-ys : ys ≡ given (drivenStep xs amount) tt (length xs))
+    (is-ds : ds ≡ given (decayStep ys) tt n)
+    (is-fs : fs ≡ given (lnCoshStep ys ds) tt (length ds)) where
+  length-ys : length ys ≡ length xs
+  length-ys = ap length is-ys ∙ given-length (drivenStep xs amount) tt (length xs)
+
+  length-ds : length ds ≡ length xs
+  length-ds = ap length is-ds ∙ given-length (decayStep ys) tt n ∙ long
+
+  sample-is : (k : ℕ) → k < length xs → at ys k ≡ driven (at amount k) (at xs k)
+  unfolding drivenStep
+  sample-is k h = ap (λ (l : List Float). at l k) is-ys ∙ given-at (drivenStep xs amount) tt (length xs) k nan h
+
+  antiderivative-is : (k : ℕ) → k < length xs → at fs k ≡ antiderivativeOf Tanh (at ys k)
+  unfolding decayStep lnCoshStep antiderivativeOf
+  antiderivative-is k h =
+      ap (λ (l : List Float). at l k) is-fs
+      ∙ given-at (lnCoshStep ys ds) tt (length ds) k nan (omega (arith, length-ds))
+      ∙ ap (lnCosh (at ys k)) (ap (λ (l : List Float). at l k) is-ds ∙ given-at (decayStep ys) tt n k nan (omega arith))
+
+  step-is : (k : ℕ) → k < length xs → (u : Drive) → driveByStep ys fs Tanh k u ≡ driveStepAt xs amount Tanh k u
+  unfolding driveByStep driveStepAt driveStep
+  step-is k h u = ap (λ (r : DriveOut). (r .out, r .drive))
+      (ap (λ (f : Float). driveBy Tanh (at ys k) f u) (antiderivative-is k h) ∙ ap (λ (x : Float). driveBy Tanh x (antiderivativeOf Tanh x) u) (sample-is k h))
+
+  pub given-drive : (s : Drive) → given (driveByStep ys fs Tanh) s (length ys) ≡ given (driveStepAt xs amount Tanh) s (length xs)
+  given-drive s = ap (given (driveByStep ys fs Tanh) s) length-ys ∙ given-same (driveByStep ys fs Tanh) (driveStepAt xs amount Tanh) s (length xs) step-is
+
+  pub after-drive : (s : Drive) → after (driveByStep ys fs Tanh) s (length ys) ≡ after (driveStepAt xs amount Tanh) s (length xs)
+  after-drive s = ap (after (driveByStep ys fs Tanh) s) length-ys ∙ after-same (driveByStep ys fs Tanh) (driveStepAt xs amount Tanh) s (length xs) step-is

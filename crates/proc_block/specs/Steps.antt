@@ -5,9 +5,10 @@ use lib.Ieee.{Float}
 use Rattle.block.specs.Iterate.{at}
 use Rattle.dsl.specs.declared.DriveShape.{DriveShape}
 use Rattle.render.specs.declared.FilterKind.{FilterKind}
+use Rattle.render.specs.Drive.{decayOf, lnCosh}
 use Rattle.proc.specs.declared.Filter.{Filter}
 use Rattle.proc.specs.declared.Drive.{Drive}
-use Rattle.proc.specs.Effects.{gainOf, filterOf, driveStep, drivePlain, tremoloOf, compressLevel, compressGain, compressOf}
+use Rattle.proc.specs.Effects.{gainOf, filterOf, driven, driveBy, driveStep, drivePlain, tremoloOf, compressLevel, compressGain, compressOf}
 
 unfoldable pub gainStep : List Float → List Float → ℕ → Unit {0} → Float × Unit {0}
 gainStep xs amount k s = (gainOf (at amount k) (at xs k), s)
@@ -17,6 +18,19 @@ filterStep xs cutoff kind q sr k s = let r = filterOf kind q sr (at cutoff k) s 
 
 unfoldable pub driveStepAt : List Float → List Float → DriveShape → ℕ → Drive → Float × Drive
 driveStepAt xs amount shape k s = let r = driveStep shape (at amount k) s (at xs k) in (r .out, r .drive)
+
+-- its passes for tanh: amplified; the decays; the antiderivatives, fs, from the decays, ds; the averages
+unfoldable pub drivenStep : List Float → List Float → ℕ → Unit {0} → Float × Unit {0}
+drivenStep xs amount k s = (driven (at amount k) (at xs k), s)
+
+unfoldable pub decayStep : List Float → ℕ → Unit {0} → Float × Unit {0}
+decayStep xs k s = (decayOf (at xs k), s)
+
+unfoldable pub lnCoshStep : List Float → List Float → ℕ → Unit {0} → Float × Unit {0}
+lnCoshStep xs ds k s = (lnCosh (at xs k) (at ds k), s)
+
+unfoldable pub driveByStep : List Float → List Float → DriveShape → ℕ → Drive → Float × Drive
+driveByStep xs fs shape k s = let r = driveBy shape (at xs k) (at fs k) s in (r .out, r .drive)
 
 unfoldable pub drivePlainStep : List Float → List Float → DriveShape → ℕ → Unit {0} → Float × Unit {0}
 drivePlainStep xs amount shape k s = (drivePlain shape (at amount k) (at xs k), s)

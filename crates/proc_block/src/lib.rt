@@ -2,8 +2,9 @@
 ghost use mathlib.Core.Path.{_≡_};
 ghost use Prim.Native.Nat.{_+_, _^_, _≤_, _<_};
 ghost use lib.ListN.{length};
+ghost use Rattle.dsl.specs.declared.DriveShape.the-variants.{Tanh};
 ghost use Rattle.block.specs.Iterate.{given, after};
-ghost use Rattle.proc_block.specs.Steps.{gainStep, filterStep, driveStepAt, drivePlainStep, tremoloStep, compressStep, levelStep, levelGainStep};
+ghost use Rattle.proc_block.specs.Steps.{gainStep, filterStep, drivenStep, decayStep, lnCoshStep, driveByStep, driveStepAt, drivePlainStep, tremoloStep, compressStep, levelStep, levelGainStep};
 
 pub fn gain_block(out: &mut [f32], amount: &[f32])
     requires { ⌜ (length (now out) ≤ length (now amount)) ⌝ }
@@ -39,8 +40,75 @@ pub fn filter_block(
     p
 }
 
-// Anti-aliased.
-pub fn drive_block(
+// ---- Drive, anti-aliased. The antiderivative of tanh is an exponential and then a logarithm, each a long chain: in loops of
+// their own, apart from the recurrence, more of them overlap.
+
+fn drive_amplified(out: &mut [f32], amount: &[f32])
+    requires { ⌜ (length (now out) ≤ length (now amount)) ⌝ }
+    ensures { λ v. ⌜ (now (out .exit) ≡ given (drivenStep (now (out .entry)) (now (amount .entry))) tt (length (now (out .entry)))) ⌝ }
+{
+    let mut k: usize = 0;
+    while k < out.len() {
+        out[k] = proc::amplified(amount[k], out[k]);
+        k += 1;
+    }
+}
+
+fn drive_decays(fs: &mut [f32], xs: &[f32])
+    requires { ⌜ (length (now fs) ≤ length (now xs)) ⌝ }
+    ensures { λ v. ⌜ (now (fs .exit) ≡ given (decayStep (now (xs .entry))) tt (length (now (fs .entry)))) ⌝ }
+{
+    let mut k: usize = 0;
+    while k < fs.len() {
+        fs[k] = render::decay(xs[k]);
+        k += 1;
+    }
+}
+
+fn drive_ln_coshes(fs: &mut [f32], xs: &[f32])
+    requires { ⌜ (length (now fs) ≤ length (now xs)) ⌝ }
+    ensures { λ v. ⌜ (now (fs .exit) ≡ given (lnCoshStep (now (xs .entry)) (now (fs .entry))) tt (length (now (fs .entry)))) ⌝ }
+{
+    let mut k: usize = 0;
+    while k < fs.len() {
+        fs[k] = render::ln_cosh(xs[k], fs[k]);
+        k += 1;
+    }
+}
+
+// From the amplified samples, in out, and their antiderivatives.
+fn drive_averages(
+    out: &mut [f32],
+    fs: &[f32],
+    shape: dsl::DriveShape,
+    s: proc::Drive,
+) -> proc::Drive
+    requires { ⌜ (length (now out) ≤ length (now fs)) ⌝ }
+    ensures { λ v. ⌜ (now (out .exit) ≡ given (driveByStep (now (out .entry)) (now (fs .entry)) shape) s (length (now (out .entry)))) × (v ≡ after (driveByStep (now (out .entry)) (now (fs .entry)) shape) s (length (now (out .entry)))) ⌝ }
+{
+    let mut p = s;
+    let mut k: usize = 0;
+    while k < out.len() {
+        let r = proc::drive_by(shape, out[k], fs[k], p);
+        out[k] = r.out;
+        p = r.drive;
+        k += 1;
+    }
+    p
+}
+
+fn drive_tanh(out: &mut [f32], fs: &mut [f32], amount: &[f32], s: proc::Drive) -> proc::Drive
+    requires { ⌜ (length (now out) ≤ length (now amount)) × (length (now fs) ≡ length (now out)) ⌝ }
+    ensures { λ v. ⌜ (now (out .exit) ≡ given (driveStepAt (now (out .entry)) (now (amount .entry)) Tanh) s (length (now (out .entry)))) × (v ≡ after (driveStepAt (now (out .entry)) (now (amount .entry)) Tanh) s (length (now (out .entry)))) ⌝ }
+{
+    drive_amplified(out, amount);
+    drive_decays(fs, out);
+    drive_ln_coshes(fs, out);
+    drive_averages(out, fs, dsl::DriveShape::Tanh, s)
+}
+
+// A block of any length and shape, in one pass.
+fn drive_long(
     out: &mut [f32],
     amount: &[f32],
     shape: dsl::DriveShape,
@@ -58,6 +126,28 @@ pub fn drive_block(
         k += 1;
     }
     p
+}
+
+pub fn drive_block(
+    out: &mut [f32],
+    amount: &[f32],
+    shape: dsl::DriveShape,
+    s: proc::Drive,
+) -> proc::Drive
+    requires { ⌜ (length (now out) ≤ length (now amount)) ⌝ }
+    ensures { λ v. ⌜ (now (out .exit) ≡ given (driveStepAt (now (out .entry)) (now (amount .entry)) shape) s (length (now (out .entry)))) × (v ≡ after (driveStepAt (now (out .entry)) (now (amount .entry)) shape) s (length (now (out .entry)))) ⌝ }
+{
+    let n = out.len();
+    if n > 256 {
+        return drive_long(out, amount, shape, s);
+    }
+    match shape {
+        dsl::DriveShape::Tanh => {
+            let mut fs = [0.0f32; 256];
+            drive_tanh(out, &mut fs[..n], amount, s)
+        }
+        _ => drive_long(out, amount, shape, s),
+    }
 }
 
 pub fn drive_plain_block(out: &mut [f32], amount: &[f32], shape: dsl::DriveShape)

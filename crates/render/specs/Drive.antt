@@ -31,9 +31,16 @@ driveOf Tanh x = tangent x
 driveOf Hard x = clampOf x minusOne one
 driveOf Fold x = foldOf x
 
--- ln cosh x as |x| + ln (1 + e ^ (-2 |x|)) - ln 2, which does not overflow; x² / 2 up to 1 and |x| - 1 / 2 beyond; the parabolas of a triangle wave of period 4
+-- ln cosh x as |x| + ln (1 + d) - ln 2, with d = e ^ (-2 |x|), which does not overflow
+abbrev pub decayOf : Float → Float
+decayOf x = exponential (minusTwo ⊗ absOf x)
+
+abbrev pub lnCosh : Float → Float → Float
+lnCosh x d = absOf x ⊕ logarithm1p d ⊖ ofBits binary32 0x3f31_7218
+
+-- ln cosh x; x² / 2 up to 1 and |x| - 1 / 2 beyond; the parabolas of a triangle wave of period 4
 unfoldable pub antiderivativeOf : DriveShape → Float → Float
-antiderivativeOf Tanh x = let a = absOf x in a ⊕ logarithm1p (exponential (minusTwo ⊗ a)) ⊖ ofBits binary32 0x3f31_7218
+antiderivativeOf Tanh x = lnCosh x (decayOf x)
 antiderivativeOf Hard x = let a = absOf x in cond (le a one) (half ⊗ x ⊗ x) (a ⊖ half)
 antiderivativeOf Fold x =
     let p = remEuclidOf binary32 (x ⊕ one) four in

@@ -2,7 +2,7 @@
 ghost use mathlib.Core.Path.{_≡_};
 ghost use Rattle.render.specs.Osc.{polyBlep, oscOf};
 ghost use Rattle.render.specs.Biquad.{gainOf, rootOf, six, normal, lowpass, highpass, bandpass, notched, peaking, lowShelf, highShelf, cookbook, angleOf, alphaOf, coeffsOf, biquadOf};
-ghost use Rattle.render.specs.Drive.{foldOf, driveOf, antiderivativeOf};
+ghost use Rattle.render.specs.Drive.{foldOf, driveOf, decayOf, lnCosh, antiderivativeOf};
 ghost use Rattle.sqrt.specs.Sqrt.{sqrtOf};
 use dsl::DriveShape;
 use dsl::Shape;
@@ -287,16 +287,26 @@ pub fn drive_curve(x: f32, shape: DriveShape) -> f32
     }
 }
 
-// Its antiderivative F, which anti-aliasing uses as F(x1) - F(x0).
+// e^(-2 |x|), for ln cosh x.
+pub fn decay(x: f32) -> f32
+    ensures { λ r. ⌜ r ≡ decayOf x ⌝ }
+{
+    dsp::exp(-2.0 * float::abs(x))
+}
+
+// ln cosh x from d, the decay of x, in a form that does not overflow where cosh would.
+pub fn ln_cosh(x: f32, d: f32) -> f32
+    ensures { λ r. ⌜ r ≡ lnCosh x d ⌝ }
+{
+    float::abs(x) + dsp::ln_1p(d) - LN_2
+}
+
+// The curve's antiderivative F, which anti-aliasing uses as F(x1) - F(x0).
 pub fn drive_antideriv(x: f32, shape: DriveShape) -> f32
     ensures { λ r. ⌜ r ≡ antiderivativeOf shape x ⌝ }
 {
     match shape {
-        // ln cosh x, in a form that does not overflow where cosh would
-        DriveShape::Tanh => {
-            let a = float::abs(x);
-            a + dsp::ln_1p(dsp::exp(-2.0 * a)) - LN_2
-        }
+        DriveShape::Tanh => ln_cosh(x, decay(x)),
         DriveShape::Hard => {
             let a = float::abs(x);
             if a <= 1.0 { 0.5 * x * x } else { a - 0.5 }

@@ -27,6 +27,10 @@ use Rattle.walk.specs.Walk.{Voiced, Ready, Scratch, Sound, Sourced, sound-after
 use Rattle.machine.specs.Machine.{State, state, samples}
 use Rattle.machine.specs.Samples.{tick, later-moved, later-position, samples-add, source-samples}
 
+-- l numbers hold every block of n samples
+pub record Buffer (n l : ℕ) : Type 0 where
+  pub enough : (m : ℕ) → m ≤ 256 → m ≤ n → m ≤ l
+
 -- an accepted sheet with its tables, and enough scratch
 pub record Set (s : List ℕ) (count : ℕ) (nexts acts begins afters places words blocks : List ℕ) (ns : ℕ) : Type 0 where
   pub voiced : Voiced s count

@@ -7,7 +7,7 @@ ghost use Rattle.control.specs.Moves.{moved, risen};
 ghost use Rattle.unit.specs.Block.{Pitched};
 ghost use Rattle.walk.specs.Walk.{Sound};
 ghost use Rattle.machine.specs.Samples.{tick};
-ghost use Rattle.streaming.specs.Run.{Set, Blocked};
+ghost use Rattle.streaming.specs.Run.{Set, Blocked, Buffer};
 
 // The controls of a sample: the pitch has moved.
 fn glide_on(c: control::Controls) -> control::Controls
@@ -105,7 +105,7 @@ fn chunk(n: usize) -> usize
     if n < 256 { n } else { 256 }
 }
 
-// As many samples as out has; v, w and pitch are buffers of a block.
+// As many samples as out has; v, w and pitch are buffers that hold a block of them.
 pub fn run(
     sheet: &[u8],
     count: usize,
@@ -125,7 +125,7 @@ pub fn run(
     regs: &mut [u64],
     scr: &mut [f32],
 ) -> control::Controls
-    requires { ⌜ Set (now sheet) count (now nexts) (now acts) (now begins) (now afters) (now places) (now words) (now blocks) (length (now scr)) × Sound (now sheet) (now cells) (now regs) × (256 ≤ length (now v)) × (256 ≤ length (now w)) × (256 ≤ length (now pitch)) × (first .position + length (now out) ≤ 2 ^ 62) ⌝ }
+    requires { ⌜ Set (now sheet) count (now nexts) (now acts) (now begins) (now afters) (now places) (now words) (now blocks) (length (now scr)) × Sound (now sheet) (now cells) (now regs) × Buffer (length (now out)) (length (now v)) × Buffer (length (now out)) (length (now w)) × Buffer (length (now out)) (length (now pitch)) × (first .position + length (now out) ≤ 2 ^ 62) ⌝ }
     ensures { λ r. ⌜ Blocked (now (sheet .entry)) (length (now (out .entry))) first (now (cells .entry)) (now (regs .entry)) (now (scr .entry)) r (now (out .exit)) (now (cells .exit)) (now (regs .exit)) (now (scr .exit)) ⌝ }
 {
     let mut c = first;

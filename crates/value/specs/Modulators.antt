@@ -33,9 +33,13 @@ slideSecs secs = maxOf secs (ofBits binary32 0x3586_37bd)
 unfoldable pub slideExp : Float → Float → Float → Float
 slideExp from to p = cond (lt zeroF from && lt zeroF to) (from ⊗ power (to ⊘ from) p) (lerp from to (p ⊗ p))
 
+-- at x seconds
+unfoldable pub slideAt : Curve → Float → Float → Float → Float → Float
+slideAt Lin from to secs x = lerp from to (clampOf (x ⊘ secs) zeroF one)
+slideAt Exp from to secs x = slideExp from to (clampOf (x ⊘ secs) zeroF one)
+
 unfoldable pub slideOf : Curve → Float → Float → Float → Float → ℕ → Float
-slideOf Lin from to secs srf t = lerp from to (clampOf (secondsOf t srf ⊘ secs) zeroF one)
-slideOf Exp from to secs srf t = slideExp from to (clampOf (secondsOf t srf ⊘ secs) zeroF one)
+slideOf curve from to secs srf t = slideAt curve from to secs (secondsOf t srf)
 
 -- Lfo: the phase is the fraction of the turns made, which is negative where the rate is
 unfoldable pub lfoPhase : Float → Float → ℕ → Float

@@ -7,13 +7,21 @@ ghost use lib.Dec.{T};
 ghost use lib.IntN.{pos};
 ghost use lib.Ieee as Ieee;
 ghost use lib.Ieee.{fin};
-ghost use Rattle.value.specs.Modulators.{secondsOf, slideSecs, slideOf, lfoPhase, lfoOf, arpIndex, arpOf, releaseStart, envModOf, randIncrement, randOut, randTurn, randNext};
+ghost use Rattle.value.specs.Modulators.{secondsOf, slideSecs, slideAt, slideOf, lfoPhase, lfoOf, arpIndex, arpOf, releaseStart, envModOf, randIncrement, randOut, randTurn, randNext};
 
 // The position in seconds.
 pub fn seconds(t: u64, srf: f32) -> f32
     ensures { λ r. ⌜ r ≡ secondsOf t srf ⌝ }
 {
     cast::u64_to_f32(t) / srf
+}
+
+// The same without `seconds`' test, which a block makes once.
+pub fn seconds_small(t: u64, srf: f32) -> f32
+    requires { ⌜ t < 16777216 ⌝ }
+    ensures { λ r. ⌜ r ≡ secondsOf t srf ⌝ }
+{
+    cast::small_to_f32(t) / srf
 }
 
 // A Slide of no length would divide by zero.
@@ -39,14 +47,20 @@ fn slide_exp(from: f32, to: f32, p: f32) -> f32
     }
 }
 
-pub fn slide(curve: dsl::Curve, from: f32, to: f32, secs: f32, srf: f32, t: u64) -> f32
-    ensures { λ r. ⌜ r ≡ slideOf curve from to secs srf t ⌝ }
+pub fn slide_at(curve: dsl::Curve, from: f32, to: f32, secs: f32, x: f32) -> f32
+    ensures { λ r. ⌜ r ≡ slideAt curve from to secs x ⌝ }
 {
-    let p = float::clamp(seconds(t, srf) / secs, 0.0, 1.0);
+    let p = float::clamp(x / secs, 0.0, 1.0);
     match curve {
         dsl::Curve::Lin => lerp(from, to, p),
         dsl::Curve::Exp => slide_exp(from, to, p),
     }
+}
+
+pub fn slide(curve: dsl::Curve, from: f32, to: f32, secs: f32, srf: f32, t: u64) -> f32
+    ensures { λ r. ⌜ r ≡ slideOf curve from to secs srf t ⌝ }
+{
+    slide_at(curve, from, to, secs, seconds(t, srf))
 }
 
 // The fraction of the turns made: `fract`, not floor, so that a negative rate has a negative phase, as in the Rust.

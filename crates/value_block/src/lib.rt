@@ -1,9 +1,39 @@
 // The values over a block, each into a buffer: what the one-sample kernel gives, sample after sample from the position t.
 ghost use mathlib.Core.Path.{_≡_};
-ghost use Prim.Native.Nat.{_+_, _^_, _<_};
+ghost use Prim.Native.Nat.{_+_, _^_, _≤_, _<_};
 ghost use lib.ListN.{length};
 ghost use Rattle.block.specs.Iterate.{given, after};
 ghost use Rattle.value_block.specs.Steps.{slideStep, lfoStep, envModStep, randStep};
+
+// A block whose positions are all below 2^24: the general conversion of a position, worked out for every sample of a
+// vectorised loop, takes longer than the rest.
+fn slide_early(out: &mut [f32], curve: dsl::Curve, from: f32, to: f32, secs: f32, srf: f32, t: u64)
+    requires { ⌜ (t + length (now out) ≤ 16777216) ⌝ }
+    ensures { λ v. ⌜ (now (out .exit) ≡ given (slideStep curve from to secs srf t) tt (length (now (out .entry)))) ⌝ }
+{
+    let mut k: usize = 0;
+    while k < out.len() {
+        out[k] = value::slide_at(
+            curve,
+            from,
+            to,
+            secs,
+            value::seconds_small(t + (k as u64), srf),
+        );
+        k += 1;
+    }
+}
+
+fn slide_any(out: &mut [f32], curve: dsl::Curve, from: f32, to: f32, secs: f32, srf: f32, t: u64)
+    requires { ⌜ (t + length (now out) < 2 ^ 64) ⌝ }
+    ensures { λ v. ⌜ (now (out .exit) ≡ given (slideStep curve from to secs srf t) tt (length (now (out .entry)))) ⌝ }
+{
+    let mut k: usize = 0;
+    while k < out.len() {
+        out[k] = value::slide(curve, from, to, secs, srf, t + (k as u64));
+        k += 1;
+    }
+}
 
 // secs is `slide_secs` of the sheet, worked out once.
 pub fn slide_block(
@@ -18,10 +48,10 @@ pub fn slide_block(
     requires { ⌜ (t + length (now out) < 2 ^ 64) ⌝ }
     ensures { λ v. ⌜ (now (out .exit) ≡ given (slideStep curve from to secs srf t) tt (length (now (out .entry)))) ⌝ }
 {
-    let mut k: usize = 0;
-    while k < out.len() {
-        out[k] = value::slide(curve, from, to, secs, srf, t + (k as u64));
-        k += 1;
+    if t + (out.len() as u64) <= 16777216 {
+        slide_early(out, curve, from, to, secs, srf, t);
+    } else {
+        slide_any(out, curve, from, to, secs, srf, t);
     }
 }
 

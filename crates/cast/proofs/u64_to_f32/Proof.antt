@@ -1,12 +1,10 @@
 -- `cast::u64_to_f32` meets its contract. Assumes nothing.
 use mathlib.Core.Path.{_≡_, refl, sym, ap, _∙_, subst}
 use Prim.Native.Nat.{ℕ, _+_, _-_, _*_, _^_, _≤_, _<_}
-use native.Mathlib.Nat.{le-trans, le-of-lt}
 use native.Mathlib.Omega.{arith}
 use lib.Count.{leadingZeros, leading-le}
-use lib.Dec.{T, le→leb, lit≤}
 use lib.IntN.{pos}
-use lib.Ieee.{binary32, inFloat, units}
+use lib.Ieee.{binary32, units}
 use lib.Ieee.Nearest.{closest}
 use mathlib.Core.Bool.{false}
 use borrow.Author.Needs.{needs}
@@ -14,13 +12,6 @@ use Rattle.ieee.proofs.Build.{Kept}
 use Rattle.cast.proofs.Long.{Long, counted}
 use Rattle.cast.proofs.u64_to_f32.Statement.{statement}
 use Rattle.cast.proofs.u64_to_f32.Tie as tie
-
-int-to-float-result : tie.Need-int-to-float-result
-unfolding inFloat
-int-to-float-result c = le→leb _ (2 ^ 24) (le-of-lt (c .before .if1 .taken))
-
-returns : tie.Need-returns
-returns c = search needs
 
 known : (c : tie.Else1) → (leadingZeros 64 (c .before .args .n) ≤ 40) × Long (c .before .args .n) (40 - leadingZeros 64 (c .before .args .n))
 known c = counted (c .before .args .n) (c .before .fits .n .fits) (c .if1 .left)
@@ -59,4 +50,4 @@ returns-2 c =
     c .from-units .ensures ∙ ap (λ (q : ℕ). units binary32 false q (k + 149)) (c .before .closest-shift .ensures) ∙ known d .1 .gives
 
 pub u64-to-f32-spec : {M : Type 1} → statement M
-u64-to-f32-spec = tie.close (tie.spec int-to-float-result returns cast-k sub-k closest-shift-requires add-from-units from-units-requires returns-2)
+u64-to-f32-spec = tie.close (tie.spec (λ c κs. search needs) (λ c. search needs) cast-k sub-k closest-shift-requires add-from-units from-units-requires returns-2)

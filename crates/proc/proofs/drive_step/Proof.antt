@@ -6,8 +6,7 @@ use Rattle.proc.proofs.drive_step.Tie as tie
 
 returns : tie.Need-returns
 unfolding driveStep
-returns c = rw (c .before .before .averaged .ensures, c .before .before .before .drive-antideriv .ensures, c .before .before .before .before .amplified .ensures)
+returns c = rw (c .drive-by .ensures, c .before .drive-antideriv .ensures, c .before .before .amplified .ensures)
 
 pub drive-step-spec : {M : Type 1} → statement M
-drive-step-spec =
-    tie.close (tie.spec (λ c κs. search needs) (λ c κs. search needs) (λ c κs. search needs) returns)
+drive-step-spec = tie.close (tie.spec (λ c κs. search needs) (λ c κs. search needs) (λ c κs. search needs) returns)

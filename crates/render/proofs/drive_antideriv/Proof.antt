@@ -6,15 +6,15 @@ use Rattle.render.proofs.drive_antideriv.Tie as tie
 
 returns : tie.Need-returns
 unfolding antiderivativeOf
-returns c = rw (c .before .before .before .enum-told .given .1, c .ln-1p .ensures, c .before .exp .ensures, c .before .before .abs .ensures)
+returns c = rw (c .before .before .enum-told .given .1, c .ln-cosh .ensures, c .before .decay .ensures)
 
 returns-2 : tie.Need-returns-2
 unfolding antiderivativeOf
-returns-2 c = rw (c .before .before .enum-told2 .given .1, ← c .before .abs2 .ensures, c .if1 .taken)
+returns-2 c = rw (c .before .before .enum-told2 .given .1, ← c .before .abs .ensures, c .if1 .taken)
 
 returns-3 : tie.Need-returns-3
 unfolding antiderivativeOf
-returns-3 c = rw (c .before .before .enum-told2 .given .1, ← c .before .abs2 .ensures, c .if1 .left)
+returns-3 c = rw (c .before .before .enum-told2 .given .1, ← c .before .abs .ensures, c .if1 .left)
 
 returns-4 : tie.Need-returns-4
 unfolding antiderivativeOf
@@ -29,7 +29,6 @@ drive-antideriv-spec =
     tie.close
     (tie.spec
     (λ c. search needs)
-    (λ c κs. search needs)
     (λ c κs. search needs)
     (λ c κs. search needs)
     (λ c. search needs)

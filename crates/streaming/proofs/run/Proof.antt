@@ -25,7 +25,7 @@ slice-relend-prefix-block c = let s = (c .before .before .before .before .before
     let l = (c .before .before .before .loop) in
     let r = l .inv .0 in
     let m = (c .before .chunk) .result in
-    omega (arith, (c .before .chunk) .ensures .1, l .inv .1, s .pre .2)
+    omega (arith, l .inv .1, s .pre .2 .enough m ((c .before .chunk) .ensures .1) (omega (arith, r .outs, (c .before .chunk) .ensures .0)))
 
 -- src/lib.rt:148:13
 slice-aggregate-block : tie.Need-slice-aggregate-block Inv-loop μ-loop
@@ -33,7 +33,7 @@ slice-aggregate-block c = let s = (c .before .before .before .before .before .be
     let l = (c .before .before .before .before .loop) in
     let r = l .inv .0 in
     let m = (c .before .before .chunk) .result in
-    sym (length-take-le m (l .v) (omega (arith, (c .before .before .chunk) .ensures .1, l .inv .1, s .pre .2)))
+    sym (length-take-le m (l .v) (omega (arith, l .inv .1, s .pre .2 .enough m ((c .before .before .chunk) .ensures .1) (omega (arith, r .outs, (c .before .before .chunk) .ensures .0)))))
 
 -- src/lib.rt:149:13
 slice-relend-prefix-block-2 : tie.Need-slice-relend-prefix-block-2 Inv-loop μ-loop
@@ -41,7 +41,7 @@ slice-relend-prefix-block-2 c = let s = (c .before .before .before .before .befo
     let l = (c .before .before .before .before .loop) in
     let r = l .inv .0 in
     let m = (c .before .before .chunk) .result in
-    omega (arith, (c .before .before .chunk) .ensures .1, l .inv .2, s .pre .3)
+    omega (arith, l .inv .2, s .pre .3 .enough m ((c .before .before .chunk) .ensures .1) (omega (arith, r .outs, (c .before .before .chunk) .ensures .0)))
 
 -- src/lib.rt:149:13
 slice-aggregate-block-2 : tie.Need-slice-aggregate-block-2 Inv-loop μ-loop
@@ -49,7 +49,7 @@ slice-aggregate-block-2 c = let s = (c .before .before .before .before .before .
     let l = (c .before .before .before .before .before .loop) in
     let r = l .inv .0 in
     let m = (c .before .before .before .chunk) .result in
-    sym (length-take-le m (l .w) (omega (arith, (c .before .before .before .chunk) .ensures .1, l .inv .2, s .pre .3)))
+    sym (length-take-le m (l .w) (omega (arith, l .inv .2, s .pre .3 .enough m ((c .before .before .before .chunk) .ensures .1) (omega (arith, r .outs, (c .before .before .before .chunk) .ensures .0)))))
 
 -- src/lib.rt:150:13
 slice-relend-prefix-block-3 : tie.Need-slice-relend-prefix-block-3 Inv-loop μ-loop
@@ -57,7 +57,7 @@ slice-relend-prefix-block-3 c = let s = (c .before .before .before .before .befo
     let l = (c .before .before .before .before .before .loop) in
     let r = l .inv .0 in
     let m = (c .before .before .before .chunk) .result in
-    omega (arith, (c .before .before .before .chunk) .ensures .1, l .inv .3, s .pre .4)
+    omega (arith, l .inv .3, s .pre .4 .enough m ((c .before .before .before .chunk) .ensures .1) (omega (arith, r .outs, (c .before .before .before .chunk) .ensures .0)))
 
 -- src/lib.rt:150:13
 slice-aggregate-block-3 : tie.Need-slice-aggregate-block-3 Inv-loop μ-loop
@@ -65,7 +65,7 @@ slice-aggregate-block-3 c = let s = (c .before .before .before .before .before .
     let l = (c .before .before .before .before .before .before .loop) in
     let r = l .inv .0 in
     let m = (c .before .before .before .before .chunk) .result in
-    sym (length-take-le m (l .pitch) (omega (arith, (c .before .before .before .before .chunk) .ensures .1, l .inv .3, s .pre .4)))
+    sym (length-take-le m (l .pitch) (omega (arith, l .inv .3, s .pre .4 .enough m ((c .before .before .before .before .chunk) .ensures .1) (omega (arith, r .outs, (c .before .before .before .before .chunk) .ensures .0)))))
 
 -- src/lib.rt:136:9
 block-requires : tie.Need-block-requires Inv-loop μ-loop
@@ -76,9 +76,9 @@ block-requires c κs = let s = (c .before .before .before .before .before .befor
     let z : l .d + m - l .d ≡ m = omega arith in
     let h : m ≤ length (drop (l .d) (l .out)) = simp length-drop (omega (arith, (c .before .before .before .before .before .before .before .chunk) .ensures .0)) in
     let lo = length-take-le m (drop (l .d) (l .out)) h in
-    let lv = length-take-le m (l .v) (omega (arith, (c .before .before .before .before .before .before .before .chunk) .ensures .1, l .inv .1, s .pre .2)) in
-    let lw = length-take-le m (l .w) (omega (arith, (c .before .before .before .before .before .before .before .chunk) .ensures .1, l .inv .2, s .pre .3)) in
-    let lp = length-take-le m (l .pitch) (omega (arith, (c .before .before .before .before .before .before .before .chunk) .ensures .1, l .inv .3, s .pre .4)) in
+    let lv = length-take-le m (l .v) (omega (arith, l .inv .1, s .pre .2 .enough m ((c .before .before .before .before .before .before .before .chunk) .ensures .1) (omega (arith, r .outs, (c .before .before .before .before .before .before .before .chunk) .ensures .0)))) in
+    let lw = length-take-le m (l .w) (omega (arith, l .inv .2, s .pre .3 .enough m ((c .before .before .before .before .before .before .before .chunk) .ensures .1) (omega (arith, r .outs, (c .before .before .before .before .before .before .before .chunk) .ensures .0)))) in
+    let lp = length-take-le m (l .pitch) (omega (arith, l .inv .3, s .pre .4 .enough m ((c .before .before .before .before .before .before .before .chunk) .ensures .1) (omega (arith, r .outs, (c .before .before .before .before .before .before .before .chunk) .ensures .0)))) in
     rw (z, lo) (set-same (s .pre .0) (r .scr), r .sound, (c .before .before .before .before .before .before .before .chunk) .ensures .1, lv, lw, lp, omega (arith, r .at-position, r .bound, r .outs, s .pre .5, (c .before .before .before .before .before .before .before .chunk) .ensures .0))
 
 -- src/lib.rt:133:5
@@ -98,14 +98,14 @@ loop-again c = let s = (c .before .before .before .before .before .before .befor
     let z : l .d + m - l .d ≡ m = omega arith in
     let h : m ≤ length (drop (l .d) (l .out)) = simp length-drop (omega (arith, (c .before .before .before .before .before .before .before .before .before .before .before .before .before .before .before .before .before .before .before .before .before .before .chunk) .ensures .0)) in
     let lo = length-take-le m (drop (l .d) (l .out)) h in
-    let lv = length-take-le m (l .v) (omega (arith, (c .before .before .before .before .before .before .before .before .before .before .before .before .before .before .before .before .before .before .before .before .before .before .chunk) .ensures .1, l .inv .1, s .pre .2)) in
-    let lw = length-take-le m (l .w) (omega (arith, (c .before .before .before .before .before .before .before .before .before .before .before .before .before .before .before .before .before .before .before .before .before .before .chunk) .ensures .1, l .inv .2, s .pre .3)) in
-    let lp = length-take-le m (l .pitch) (omega (arith, (c .before .before .before .before .before .before .before .before .before .before .before .before .before .before .before .before .before .before .before .before .before .before .chunk) .ensures .1, l .inv .3, s .pre .4)) in
+    let lv = length-take-le m (l .v) (omega (arith, l .inv .1, s .pre .2 .enough m ((c .before .before .before .before .before .before .before .before .before .before .before .before .before .before .before .before .before .before .before .before .before .before .chunk) .ensures .1) (omega (arith, r .outs, (c .before .before .before .before .before .before .before .before .before .before .before .before .before .before .before .before .before .before .before .before .before .before .chunk) .ensures .0)))) in
+    let lw = length-take-le m (l .w) (omega (arith, l .inv .2, s .pre .3 .enough m ((c .before .before .before .before .before .before .before .before .before .before .before .before .before .before .before .before .before .before .before .before .before .before .chunk) .ensures .1) (omega (arith, r .outs, (c .before .before .before .before .before .before .before .before .before .before .before .before .before .before .before .before .before .before .before .before .before .before .chunk) .ensures .0)))) in
+    let lp = length-take-le m (l .pitch) (omega (arith, l .inv .3, s .pre .4 .enough m ((c .before .before .before .before .before .before .before .before .before .before .before .before .before .before .before .before .before .before .before .before .before .before .chunk) .ensures .1) (omega (arith, r .outs, (c .before .before .before .before .before .before .before .before .before .before .before .before .before .before .before .before .before .before .before .before .before .before .chunk) .ensures .0)))) in
     let b = rw (z, lo) at ((c .before .before .before .before .before .before .before .before .before .before .before .before .before .before .block) .ensures) in (
       run-turn _ _ _ _ _ _ (l .c) _ _ _ _ (l .d) m (l .d + m) _ _ _ _ _ r refl (omega (arith, r .outs, (c .before .before .before .before .before .before .before .before .before .before .before .before .before .before .before .before .before .before .before .before .before .before .chunk) .ensures .0)) ((c .before .before .before .before .before .before .before .before .before .before .before .before .before .before .block) .kept .1 .1 .1 .1 .1 .1 .1 .1 .1 .1 .0 ∙ ap (λ (k : ℕ). length (take k (drop (l .d) (l .out)))) z ∙ lo) ((c .before .before .before .before .before .before .before .before .before .before .before .before .before .before .block) .kept .1 .1 .1 .1 .1 .1 .1 .1 .1 .1 .1 .1 .1 .1 .0) ((c .before .before .before .before .before .before .before .before .before .before .before .before .before .before .block) .kept .1 .1 .1 .1 .1 .1 .1 .1 .1 .1 .1 .1 .1 .1 .1 .0) ((c .before .before .before .before .before .before .before .before .before .before .before .before .before .before .block) .kept .1 .1 .1 .1 .1 .1 .1 .1 .1 .1 .1 .1 .1 .1 .1 .1 .0) (b .0) (b .1),
-      simp (length-append, length-drop) (omega (arith, (c .before .before .before .before .before .before .before .before .before .before .before .before .before .before .block) .kept .1 .1 .1 .1 .1 .1 .1 .1 .1 .1 .1 .0, lv, l .inv .1, s .pre .2, (c .before .before .before .before .before .before .before .before .before .before .before .before .before .before .before .before .before .before .before .before .before .before .chunk) .ensures .1)),
-      simp (length-append, length-drop) (omega (arith, (c .before .before .before .before .before .before .before .before .before .before .before .before .before .before .block) .kept .1 .1 .1 .1 .1 .1 .1 .1 .1 .1 .1 .1 .0, lw, l .inv .2, s .pre .3, (c .before .before .before .before .before .before .before .before .before .before .before .before .before .before .before .before .before .before .before .before .before .before .chunk) .ensures .1)),
-      simp (length-append, length-drop) (omega (arith, (c .before .before .before .before .before .before .before .before .before .before .before .before .before .before .block) .kept .1 .1 .1 .1 .1 .1 .1 .1 .1 .1 .1 .1 .1 .0, lp, l .inv .3, s .pre .4, (c .before .before .before .before .before .before .before .before .before .before .before .before .before .before .before .before .before .before .before .before .before .before .chunk) .ensures .1)),
+      simp (length-append, length-drop) (omega (arith, (c .before .before .before .before .before .before .before .before .before .before .before .before .before .before .block) .kept .1 .1 .1 .1 .1 .1 .1 .1 .1 .1 .1 .0, lv, l .inv .1, s .pre .2 .enough m ((c .before .before .before .before .before .before .before .before .before .before .before .before .before .before .before .before .before .before .before .before .before .before .chunk) .ensures .1) (omega (arith, r .outs, (c .before .before .before .before .before .before .before .before .before .before .before .before .before .before .before .before .before .before .before .before .before .before .chunk) .ensures .0)))),
+      simp (length-append, length-drop) (omega (arith, (c .before .before .before .before .before .before .before .before .before .before .before .before .before .before .block) .kept .1 .1 .1 .1 .1 .1 .1 .1 .1 .1 .1 .1 .0, lw, l .inv .2, s .pre .3 .enough m ((c .before .before .before .before .before .before .before .before .before .before .before .before .before .before .before .before .before .before .before .before .before .before .chunk) .ensures .1) (omega (arith, r .outs, (c .before .before .before .before .before .before .before .before .before .before .before .before .before .before .before .before .before .before .before .before .before .before .chunk) .ensures .0)))),
+      simp (length-append, length-drop) (omega (arith, (c .before .before .before .before .before .before .before .before .before .before .before .before .before .before .block) .kept .1 .1 .1 .1 .1 .1 .1 .1 .1 .1 .1 .1 .1 .0, lp, l .inv .3, s .pre .4 .enough m ((c .before .before .before .before .before .before .before .before .before .before .before .before .before .before .before .before .before .before .before .before .before .before .chunk) .ensures .1) (omega (arith, r .outs, (c .before .before .before .before .before .before .before .before .before .before .before .before .before .before .before .before .before .before .before .before .before .before .chunk) .ensures .0)))),
     )
 
 -- src/lib.rt:109:1

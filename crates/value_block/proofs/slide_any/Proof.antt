@@ -1,4 +1,4 @@
--- `value_block::slide_block` meets its contract. Assumes nothing.
+-- `value_block::slide_any` meets its contract. Assumes nothing.
 use mathlib.Core.Path.{refl}
 use Prim.Native.Nat.{_-_}
 use native.Mathlib.Omega.{arith}
@@ -7,8 +7,8 @@ use lib.Ieee.{nan}
 use Rattle.block.specs.Loop.{Going, going-start, going-turn, going-end}
 use Rattle.value_block.specs.Steps.{slideStep}
 use borrow.Author.Needs.{needs}
-use Rattle.value_block.proofs.slide_block.Statement.{statement}
-use Rattle.value_block.proofs.slide_block.Tie as tie
+use Rattle.value_block.proofs.slide_any.Statement.{statement}
+use Rattle.value_block.proofs.slide_any.Tie as tie
 
 abbrev Inv-loop : tie.InvT-loop
 Inv-loop out₀ curve from to secs srf t k₀ out k = Going nan (slideStep curve from to secs srf t) tt out₀ k out tt
@@ -28,8 +28,8 @@ loop-again c =
 returns : tie.Need-returns Inv-loop μ-loop
 returns c = (going-end nan _ _ _ (c .before .loop .inv) (omega arith)) .0
 
-pub slide-block-spec : {M : Type 1} → statement M
-slide-block-spec =
+pub slide-any-spec : {M : Type 1} → statement M
+slide-any-spec =
     tie.close
     (tie.spec
     Inv-loop

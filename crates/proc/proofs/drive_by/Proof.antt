@@ -1,0 +1,12 @@
+-- `proc::drive_by` meets its contract. Assumes nothing.
+use Rattle.proc.specs.Effects.{driveBy}
+use borrow.Author.Needs.{needs}
+use Rattle.proc.proofs.drive_by.Statement.{statement}
+use Rattle.proc.proofs.drive_by.Tie as tie
+
+returns : tie.Need-returns
+unfolding driveBy
+returns c = rw (c .before .before .averaged .ensures)
+
+pub drive-by-spec : {M : Type 1} → statement M
+drive-by-spec = tie.close (tie.spec (λ c κs. search needs) returns)

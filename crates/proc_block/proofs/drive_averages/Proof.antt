@@ -1,0 +1,55 @@
+-- `proc_block::drive_averages` meets its contract. Assumes nothing.
+use mathlib.Core.Path.{ap, _∙_}
+use Prim.Native.Nat.{_-_}
+use native.Mathlib.Nat.{le-refl}
+use native.Mathlib.Omega.{arith}
+use lib.ListN.{length}
+use lib.Ieee.{Float, nan}
+use Rattle.block.specs.Loop.{Going, going-start, going-turn, going-end}
+use Rattle.proc.specs.declared.DriveOut.{DriveOut}
+use Rattle.proc.specs.Effects.{driveBy}
+use lib.ListN.{getD}
+use Rattle.proc_block.specs.Steps.{driveByStep}
+use borrow.Author.Needs.{needs}
+use Rattle.proc_block.proofs.drive_averages.Statement.{statement}
+use Rattle.proc_block.proofs.drive_averages.Tie as tie
+
+abbrev Inv-loop : tie.InvT-loop
+Inv-loop out₀ fs shape p₀ k₀ out p k = Going nan (driveByStep out₀ fs shape) p₀ out₀ k out p
+
+abbrev μ-loop : tie.MeasureT-loop
+μ-loop out₀ fs shape p₀ k₀ out p k = length out₀ - k
+
+loop-holds : tie.Need-loop-holds Inv-loop μ-loop
+loop-holds c = going-start nan _ _ _
+
+loop-again : tie.Need-loop-again Inv-loop μ-loop
+unfolding driveByStep
+loop-again c =
+    let l = c .before .before .before .before .before .loop in
+    let a = c .before .before .before .before .before .before .before .before .args in
+    let e = c .before .drive-by .ensures ∙ ap (λ (x : Float). driveBy (a .shape) x (getD (a .fs .now) (l .k) nan) (l .p)) (l .inv .todo (l .k) (le-refl (l .k))) in
+    going-turn nan _ _ _ (l .inv) (omega arith) (ap (λ (r : DriveOut). r .out) e) (ap (λ (r : DriveOut). r .drive) e)
+
+returns : tie.Need-returns Inv-loop μ-loop
+returns c = going-end nan _ _ _ (c .before .loop .inv) (omega arith)
+
+pub drive-averages-spec : {M : Type 1} → statement M
+drive-averages-spec =
+    tie.close
+    (tie.spec
+    Inv-loop
+    μ-loop
+    loop-holds
+    (λ c. search needs)
+    (λ c. search needs)
+    (λ c. search needs)
+    (λ c. search needs)
+    (λ c κs. search needs)
+    (λ c. search needs)
+    (λ c. search needs)
+    (λ c. search needs)
+    (λ c. search needs)
+    loop-again
+    (λ c. search needs)
+    returns)
