@@ -419,7 +419,7 @@ fn fill_by(
     )
 }
 
-// A sheet of at most 32 records: to zero tables for 256 would take longer than a short fill of such a voice.
+// A sheet of at most 24 records: to zero tables for 256 would take longer than a short fill of such a voice.
 fn fill_short(
     sheet: &[u8],
     c: control::Controls,
@@ -428,19 +428,19 @@ fn fill_short(
     regs: &mut [u64],
     scr: &mut [f32],
 ) -> Answer
-    requires { ⌜ length (now sheet) ≤ 1304 ⌝ }
+    requires { ⌜ length (now sheet) ≤ 984 ⌝ }
     ensures { λ r. ⌜ Fills (now (sheet .entry)) c (now (out .entry)) (now (cells .entry)) (now (regs .entry)) (now (scr .entry)) (r .answer) (r .controls) (now (out .exit)) (now (cells .exit)) (now (regs .exit)) (now (scr .exit)) ⌝ }
 {
-    let mut kinds = [0u8; 32];
-    let mut firsts = [0usize; 32];
-    let mut nexts = [0usize; 32];
-    let mut lasts = [0u8; 32];
-    let mut acts = [0u8; 32];
-    let mut begins = [0usize; 32];
-    let mut afters = [0usize; 32];
-    let mut places = [0usize; 33];
-    let mut words = [0usize; 33];
-    let mut blocks = [0usize; 33];
+    let mut kinds = [0u8; 24];
+    let mut firsts = [0usize; 24];
+    let mut nexts = [0usize; 24];
+    let mut lasts = [0u8; 24];
+    let mut acts = [0u8; 24];
+    let mut begins = [0usize; 24];
+    let mut afters = [0usize; 24];
+    let mut places = [0usize; 25];
+    let mut words = [0usize; 25];
+    let mut blocks = [0usize; 25];
     fill_by(
         sheet,
         c,
@@ -512,7 +512,7 @@ pub fn fill(
 ) -> Answer
     ensures { λ r. ⌜ Fills (now (sheet .entry)) c (now (out .entry)) (now (cells .entry)) (now (regs .entry)) (now (scr .entry)) (r .answer) (r .controls) (now (out .exit)) (now (cells .exit)) (now (regs .exit)) (now (scr .exit)) ⌝ }
 {
-    if sheet.len() <= 1304 {
+    if sheet.len() <= 984 {
         return fill_short(sheet, c, out, cells, regs, scr);
     }
     fill_any(sheet, c, out, cells, regs, scr)
@@ -576,21 +576,21 @@ fn cutoff_by(
     0
 }
 
-// A sheet of at most 32 records.
+// A sheet of at most 24 records.
 fn cutoff_short(sheet: &[u8], x: f32, cells: &mut [f32], regs: &[u64], scr: &[f32]) -> u8
-    requires { ⌜ length (now sheet) ≤ 1304 ⌝ }
+    requires { ⌜ length (now sheet) ≤ 984 ⌝ }
     ensures { λ r. ⌜ Cuts (now (sheet .entry)) x (now (cells .entry)) (length (now (regs .entry))) (length (now (scr .entry))) r (now (cells .exit)) ⌝ }
 {
-    let mut kinds = [0u8; 32];
-    let mut firsts = [0usize; 32];
-    let mut nexts = [0usize; 32];
-    let mut lasts = [0u8; 32];
-    let mut acts = [0u8; 32];
-    let mut begins = [0usize; 32];
-    let mut afters = [0usize; 32];
-    let mut places = [0usize; 33];
-    let mut words = [0usize; 33];
-    let mut blocks = [0usize; 33];
+    let mut kinds = [0u8; 24];
+    let mut firsts = [0usize; 24];
+    let mut nexts = [0usize; 24];
+    let mut lasts = [0u8; 24];
+    let mut acts = [0u8; 24];
+    let mut begins = [0usize; 24];
+    let mut afters = [0usize; 24];
+    let mut places = [0usize; 25];
+    let mut words = [0usize; 25];
+    let mut blocks = [0usize; 25];
     cutoff_by(
         sheet,
         x,
@@ -646,7 +646,7 @@ fn cutoff_any(sheet: &[u8], x: f32, cells: &mut [f32], regs: &[u64], scr: &[f32]
 pub fn cutoff(sheet: &[u8], x: f32, cells: &mut [f32], regs: &[u64], scr: &[f32]) -> u8
     ensures { λ r. ⌜ Cuts (now (sheet .entry)) x (now (cells .entry)) (length (now (regs .entry))) (length (now (scr .entry))) r (now (cells .exit)) ⌝ }
 {
-    if sheet.len() <= 1304 {
+    if sheet.len() <= 984 {
         return cutoff_short(sheet, x, cells, regs, scr);
     }
     cutoff_any(sheet, x, cells, regs, scr)

@@ -1,8 +1,12 @@
 // The kernels of osc.rs and effects.rs, each equal to its definition in specs/, operation by operation.
 ghost use mathlib.Core.Path.{_≡_};
+ghost use mathlib.Core.Bool.{true, cond};
+ghost use lib.Ieee.{lt};
+ghost use Rattle.float.specs.Order.{isFinite};
+ghost use Rattle.float.specs.Single.{_⊖_, one, two};
 ghost use Rattle.render.specs.Osc.{polyBlep, oscOf};
 ghost use Rattle.render.specs.Biquad.{gainOf, rootOf, six, normal, lowpass, highpass, bandpass, notched, peaking, lowShelf, highShelf, cookbook, angleOf, alphaOf, coeffsOf, biquadOf};
-ghost use Rattle.render.specs.Drive.{foldOf, driveOf, decayOf, lnCosh, antiderivativeOf};
+ghost use Rattle.render.specs.Drive.{minusOne, minusTwo, foldOf, driveOf, decayOf, lnCosh, antiderivativeOf};
 ghost use Rattle.sqrt.specs.Sqrt.{sqrtOf};
 use dsl::DriveShape;
 use dsl::Shape;
@@ -251,14 +255,12 @@ pub fn biquad_coeffs(kind: FilterKind, fc: f32, q: f32, sr: u32) -> Coefficients
 
 // ---- waveshapers
 
-// Reflects what is outside [-1, 1] back inward. An infinity or a NaN would never come in, and from far out it would take
-// long: after 1,025 folds the sample is clamped.
-fn fold(x: f32) -> f32
+// Reflects a finite x that is outside [-1, 1] back inward. From far out it would take long: after 1,025 folds the sample is
+// clamped.
+fn fold_on(x: f32) -> f32
+    requires { ⌜ isFinite x ≡ true ⌝ }
     ensures { λ r. ⌜ r ≡ foldOf x ⌝ }
 {
-    if !float::is_finite(x) {
-        return 0.0;
-    }
     let mut y = x;
     let mut folds: u32 = 0;
     while folds <= 1024 {
@@ -274,6 +276,36 @@ fn fold(x: f32) -> f32
         folds += 1;
     }
     float::clamp(y, -1.0, 1.0)
+}
+
+fn raised(x: f32) -> f32
+    ensures { λ r. ⌜ r ≡ cond (lt x minusOne) (minusTwo ⊖ x) x ⌝ }
+{
+    if x < -1.0 { -2.0 - x } else { x }
+}
+
+fn reflected(x: f32) -> f32
+    ensures { λ r. ⌜ r ≡ cond (lt one x) (two ⊖ x) (cond (lt x minusOne) (minusTwo ⊖ x) x) ⌝ }
+{
+    let y = raised(x);
+    if x > 1.0 { 2.0 - x } else { y }
+}
+
+// One fold at most is usual, and made by selections: on noise a branch would miss. An infinity or a NaN would never come in.
+fn fold(x: f32) -> f32
+    ensures { λ r. ⌜ r ≡ foldOf x ⌝ }
+{
+    if !float::is_finite(x) {
+        return 0.0;
+    }
+    let z = reflected(x);
+    if z > 1.0 {
+        return fold_on(x);
+    }
+    if z < -1.0 {
+        return fold_on(x);
+    }
+    z
 }
 
 // The waveshaper's curve at one sample.

@@ -6,15 +6,16 @@ use native.Mathlib.Nat.{add-zero}
 use native.Mathlib.Numerals.{add-one}
 use native.Mathlib.Omega.{arith}
 use native.Mathlib.Decide.{ℕ-discrete}
-use lib.ListN.{length, set, take, drop, length-set, length-drop, length-append, replicate}
+use lib.ListN.{length, set, take, drop, length-set, length-drop, length-append, length-map, replicate}
 use lib.Seq.{length-take-le, take-at, take-all, take-append-add, getD-set-same, getD-set-other}
 use lib.Ieee.{Float, nan}
 use Rattle.tree.specs.Comm.{M, later}
-use Rattle.tree.specs.Lists.{map-const}
+use Rattle.tree.specs.Lists.{map-const, getD-const}
 use Rattle.block.specs.Iterate.{at}
 use Rattle.block.specs.Patch.{source}
 use Rattle.control.specs.declared.Controls.{Controls}
-use Rattle.control.specs.Moves.{moved, bent}
+use Rattle.float.specs.Single.{_⊗_}
+use Rattle.control.specs.Moves.{glided, moved, risen, bent}
 use Rattle.sheet.specs.Record.{countOf, next}
 use Rattle.layout.specs.Built.{role, begin, after}
 use Rattle.layout.specs.Needs.{cellsFrom, registersFrom, scratchFrom}
@@ -177,3 +178,35 @@ glide-turn c w v r k x q i h e d =
         | no z ↦ getD-set-other v k j x nan z ∙ i .done j (omega arith)
       ];
     }
+
+-- ---- a pitch that a sample does not move: the controls n samples on
+abbrev pub risenBy : ℕ → Controls → Controls
+risenBy n c = record { position = c .position + n; pitch = c .pitch; target = c .target; glide = c .glide; bend = c .bend }
+
+pub later-held : (c : Controls) → glided (c .pitch) (c .target) (c .glide) ≡ c .pitch → (n : ℕ) → later tick n c ≡ risenBy n c
+unfolding later moved risen
+later-held c e zero = ap (λ (p : ℕ). at-position p) (sym (add-zero (c .position)))
+  where
+    at-position : ℕ → Controls
+    at-position p = record { position = p; pitch = c .pitch; target = c .target; glide = c .glide; bend = c .bend }
+later-held c e (suc n) =
+    ap (λ (x : Float). later tick n (at-pitch x)) e
+    ∙ later-held (at-pitch (c .pitch)) e n
+    ∙ ap (λ (p : ℕ). at-position p) (more (c .position) n)
+  where
+    at-position : ℕ → Controls
+    at-position p = record { position = p; pitch = c .pitch; target = c .target; glide = c .glide; bend = c .bend }
+
+    at-pitch : Float → Controls
+    at-pitch x = record { position = c .position + 1; pitch = x; target = c .target; glide = c .glide; bend = c .bend }
+
+    more : (p n : ℕ) → p + 1 + n ≡ p + suc n
+    more p n = omega arith
+
+-- each sample then reads the same pitch
+pub pitched-held : (c : Controls) → glided (c .pitch) (c .target) (c .glide) ≡ c .pitch → (x : Float) → x ≡ bent c → (w : List Float) → Pitched (moved c) (map (λ y. x) w) (length w)
+unfolding moved
+pitched-held c e x p w = record {
+  long = omega (arith, length-map w (λ y. x));
+  at-all = λ k h. getD-const x w k nan h ∙ p ∙ ap (λ (y : Float). y ⊗ c .bend) (sym e) ∙ ap bent (ap moved (sym (later-held c e k)) ∙ later-moved k c);
+}

@@ -1,13 +1,14 @@
 // Samples in any number, a block of at most 256 at a time: the pitch of each sample first, then the walk over the records.
 ghost use mathlib.Core.Path.{_≡_};
+ghost use mathlib.Core.Bool.{true};
 ghost use Prim.Native.Nat.{_+_, _^_, _≤_, _<_};
 ghost use lib.ListN.{length};
 ghost use Rattle.tree.specs.Comm.{later};
-ghost use Rattle.control.specs.Moves.{moved, risen};
+ghost use Rattle.control.specs.Moves.{glided, moved, risen};
 ghost use Rattle.unit.specs.Block.{Pitched};
 ghost use Rattle.walk.specs.Walk.{Sound};
 ghost use Rattle.machine.specs.Samples.{tick};
-ghost use Rattle.streaming.specs.Run.{Set, Blocked, Buffer};
+ghost use Rattle.streaming.specs.Run.{Set, Blocked, Buffer, risenBy};
 
 // The controls of a sample: the pitch has moved.
 fn glide_on(c: control::Controls) -> control::Controls
@@ -35,8 +36,37 @@ fn rise(c: control::Controls) -> control::Controls
     }
 }
 
-// What the sources read for the pitch of each sample; returns the controls after the last.
-fn glide_block(first: control::Controls, pitch: &mut [f32]) -> control::Controls
+// Whether two numbers are the same: their patterns tell zeros of unlike sign apart.
+fn same(a: f32, b: f32) -> bool
+    ensures { λ r. ⌜ (r ≡ true → a ≡ b) ⌝ }
+{
+    float::to_bits(a) == float::to_bits(b)
+}
+
+// The controls n samples on, where the pitch stays.
+fn rise_by(c: control::Controls, n: u64) -> control::Controls
+    requires { ⌜ c .position + n < 2 ^ 64 ⌝ }
+    ensures { λ r. ⌜ r ≡ risenBy n c ⌝ }
+{
+    control::Controls {
+        position: c.position + n,
+        pitch: c.pitch,
+        target: c.target,
+        glide: c.glide,
+        bend: c.bend,
+    }
+}
+
+// A pitch that a sample does not move stays for the whole block: one product, and no chain from sample to sample.
+fn glide_held(first: control::Controls, pitch: &mut [f32]) -> control::Controls
+    requires { ⌜ (glided (first .pitch) (first .target) (first .glide) ≡ first .pitch) × (first .position + length (now pitch) ≤ 2 ^ 62) ⌝ }
+    ensures { λ r. ⌜ (r ≡ later tick (length (now (pitch .entry))) first) × Pitched (moved first) (now (pitch .exit)) (length (now (pitch .entry))) ⌝ }
+{
+    block::fill_block(pitch, first.pitch * first.bend);
+    rise_by(first, pitch.len() as u64)
+}
+
+fn glide_moving(first: control::Controls, pitch: &mut [f32]) -> control::Controls
     requires { ⌜ first .position + length (now pitch) ≤ 2 ^ 62 ⌝ }
     ensures { λ r. ⌜ (r ≡ later tick (length (now (pitch .entry))) first) × Pitched (moved first) (now (pitch .exit)) (length (now (pitch .entry))) ⌝ }
 {
@@ -49,6 +79,18 @@ fn glide_block(first: control::Controls, pitch: &mut [f32]) -> control::Controls
         k += 1;
     }
     c
+}
+
+// What the sources read for the pitch of each sample; returns the controls after the last.
+fn glide_block(first: control::Controls, pitch: &mut [f32]) -> control::Controls
+    requires { ⌜ first .position + length (now pitch) ≤ 2 ^ 62 ⌝ }
+    ensures { λ r. ⌜ (r ≡ later tick (length (now (pitch .entry))) first) × Pitched (moved first) (now (pitch .exit)) (length (now (pitch .entry))) ⌝ }
+{
+    let m = glide_on(first);
+    if same(m.pitch, first.pitch) {
+        return glide_held(first, pitch);
+    }
+    glide_moving(first, pitch)
 }
 
 // One block: v, w and pitch are buffers of its length.

@@ -1,54 +1,26 @@
 -- `streaming::glide_block` meets its contract. Assumes nothing.
-use mathlib.Core.Path.{_≡_, ap, _∙_}
-use Prim.Native.Nat.{_-_, _+_, _≤_, _<_}
-use native.Mathlib.Omega.{arith}
-use lib.ListN.{length}
-use Rattle.control.specs.Moves.{moved, risen}
-use Rattle.streaming.specs.Run.{Gliding, glide-start, glide-turn}
+use mathlib.Core.Path.{sym, ap, _∙_}
 use borrow.Author.Needs.{needs}
+use Rattle.control.specs.declared.Controls.{Controls}
+use Rattle.control.specs.Moves.{moved}
 use Rattle.streaming.proofs.glide_block.Statement.{statement}
 use Rattle.streaming.proofs.glide_block.Tie as tie
 
-abbrev Inv-loop : tie.InvT-loop
-Inv-loop pitch₀ c₀ k₀ pitch c k = Gliding c₀ pitch₀ pitch c k
-
-abbrev μ-loop : tie.MeasureT-loop
-μ-loop pitch₀ c₀ k₀ pitch c k = length pitch₀ - k
-
--- src/lib.rt:45:5
-loop-holds : tie.Need-loop-holds Inv-loop μ-loop
-loop-holds c = glide-start _ _
-
--- src/lib.rt:48:9
-rise-requires : tie.Need-rise-requires Inv-loop μ-loop
+glide-held-requires : tie.Need-glide-held-requires
 unfolding moved
-rise-requires c κs = let l = (c .before .before .before .loop) in
-    rw ((c .before .glide-on) .ensures) (omega (arith, l .inv .at-position, l .inv .bound, (c .before .before .before .before .before) .pre))
-
--- src/lib.rt:45:5
-loop-again : tie.Need-loop-again Inv-loop μ-loop
-loop-again c = let l = (c .before .before .before .before .loop) in
-    glide-turn _ _ _ _ (l .k) _ _ (l .inv) (omega (arith, l .inv .long)) (rw ((c .before .before .glide-on) .ensures)) ((c .rise) .ensures ∙ ap risen ((c .before .before .glide-on) .ensures))
-
--- src/lib.rt:39:1
-returns : tie.Need-returns Inv-loop μ-loop
-returns c = let l = (c .before .loop) in
-    let e : l .k ≡ length ((c .before .before .before) .args .pitch .now) = omega (arith, l .inv .bound, l .inv .long) in
-    (rw e at (l .inv .is), record { long = omega (arith, l .inv .long); at-all = rw e at (l .inv .done) })
+glide-held-requires c κs =
+    let m = c .before .before .before .glide-on .ensures in
+    (ap (λ (d : Controls). d .pitch) (sym m) ∙ c .before .before .same .ensures (c .before .if1 .taken), search needs)
 
 pub glide-block-spec : {M : Type 1} → statement M
 glide-block-spec =
     tie.close
     (tie.spec
-    Inv-loop
-    μ-loop
-    loop-holds
+    (λ c κs. search needs)
+    (λ c κs. search needs)
+    glide-held-requires
+    (λ c. search needs)
+    (λ c. search needs)
     (λ c κs. search needs)
     (λ c. search needs)
-    (λ c. search needs)
-    rise-requires
-    (λ c. search needs)
-    (λ c. search needs)
-    loop-again
-    (λ c. search needs)
-    returns)
+    (λ c. search needs))
