@@ -1,4 +1,5 @@
 ghost use mathlib.Core.Path.{_≡_};
+ghost use mathlib.Core.List.{map};
 ghost use lib.Ieee as Ieee;
 ghost use lib.Ieee.{binary32};
 ghost use Rattle.dsp.specs.Math.{sine, cosine, exponential, logarithm1p, power, tangent, logarithm10};
@@ -151,6 +152,17 @@ pub fn sin(x: f32) -> f32
     ensures { λ r. ⌜ r ≡ sine x ⌝ }
 {
     det::sinf(x)
+}
+
+// Each number's sine, in place.
+pub fn sin_block(xs: &mut [f32])
+    ensures { λ r. ⌜ now (xs .exit) ≡ map sine (now (xs .entry)) ⌝ }
+{
+    let mut k: usize = 0;
+    while k < xs.len() {
+        xs[k] = sin(xs[k]);
+        k += 1;
+    }
 }
 
 pub fn cos(x: f32) -> f32

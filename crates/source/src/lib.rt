@@ -4,7 +4,7 @@ ghost use mathlib.Core.Bool.{cond};
 ghost use lib.Ieee as Ieee;
 ghost use lib.Ieee.{neg};
 ghost use Rattle.float.specs.Order.{clampOf};
-ghost use Rattle.float.specs.Single.{one};
+ghost use Rattle.float.specs.Single.{_⊗_, _⊘_, one};
 ghost use Rattle.source.specs.Oscillators.{increment, hertz, advance, sineOf, pulseLevel, pulse, squareOf, sawAt, sawOf, halfPulse, triangleOf, fmOf, superVoice};
 ghost use Rattle.source.specs.Others.{impactWidth, impactNorm, impactOf, envOf, whiteOf, pinkOf, brownOf, dustChance, dustDecay, dustOf};
 
@@ -60,11 +60,18 @@ fn step_of(f: f32, pitch: f32, srf: f32) -> f32
     float::max0(f) * pitch / srf
 }
 
+// The phase a sample on.
+pub fn phase_next(f: f32, pitch: f32, srf: f32, phase: f32) -> f32
+    ensures { λ r. ⌜ r ≡ advance phase (increment f pitch srf) ⌝ }
+{
+    float::wrap(phase + step_of(f, pitch, srf))
+}
+
 pub fn sine(f: f32, pitch: f32, srf: f32, phase: f32) -> Phased
     ensures { λ r. ⌜ r ≡ sineOf f pitch srf phase ⌝ }
 {
     let out = render::osc(dsl::Shape::Sine, phase);
-    let next = float::wrap(phase + step_of(f, pitch, srf));
+    let next = phase_next(f, pitch, srf, phase);
     Phased { out, phase: next }
 }
 
@@ -126,14 +133,20 @@ pub fn triangle(f: f32, pitch: f32, srf: f32, phase: f32, tri: f32) -> TriangleO
     }
 }
 
+// The modulator's phase a sample on; the carrier's is `phase_next`.
+pub fn modulator_next(f: f32, ratio: f32, pitch: f32, srf: f32, mph: f32) -> f32
+    ensures { λ r. ⌜ r ≡ advance mph (hertz f pitch ⊗ ratio ⊘ srf) ⌝ }
+{
+    float::wrap(mph + float::max0(f) * pitch * ratio / srf)
+}
+
 pub fn fm(f: f32, index: f32, ratio: f32, pitch: f32, srf: f32, cph: f32, mph: f32) -> FmOut
     ensures { λ r. ⌜ r ≡ fmOf f index ratio pitch srf cph mph ⌝ }
 {
     let m = index * dsp::sin(6.2831855 * mph);
     let out = dsp::sin(6.2831855 * cph + m);
-    let fi = float::max0(f) * pitch;
-    let c = float::wrap(cph + fi / srf);
-    let n = float::wrap(mph + fi * ratio / srf);
+    let c = phase_next(f, pitch, srf, cph);
+    let n = modulator_next(f, ratio, pitch, srf, mph);
     FmOut {
         out,
         cph: c,

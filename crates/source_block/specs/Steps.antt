@@ -2,8 +2,9 @@
 use mathlib.Core.List.{List}
 use Prim.Native.Nat.{ℕ, _+_}
 use lib.Ieee.{Float}
+use Rattle.float.specs.Single.{_⊕_, _⊗_, _⊘_, tau}
 use Rattle.block.specs.Iterate.{at}
-use Rattle.source.specs.Oscillators.{sineOf, squareOf, sawOf, triangleOf, fmOf}
+use Rattle.source.specs.Oscillators.{hertz, increment, advance, sineOf, squareOf, sawOf, triangleOf, fmOf}
 use Rattle.source.specs.Others.{impactOf, envOf, whiteOf, pinkOf, brownOf, dustOf}
 use Rattle.source.specs.declared.Poles.{Poles}
 use Rattle.source.specs.declared.PinkOut.{PinkOut}
@@ -19,6 +20,10 @@ use Rattle.source_block.specs.declared.Dust.{Dust}
 
 unfoldable pub sineStep : List Float → List Float → Float → ℕ → Float → Float × Float
 sineStep f pitch srf k phase = let s = sineOf (at f k) (at pitch k) srf phase in (s .out, s .phase)
+
+-- its first pass, the arguments of the sines
+unfoldable pub sineArgumentStep : List Float → List Float → Float → ℕ → Float → Float × Float
+sineArgumentStep f pitch srf k phase = (tau ⊗ phase, advance phase (increment (at f k) (at pitch k) srf))
 
 unfoldable pub squareStep : List Float → List Float → List Float → Float → ℕ → Float → Float × Float
 squareStep f duty pitch srf k phase = let s = squareOf (at f k) (at duty k) (at pitch k) srf phase in (s .out, s .phase)
@@ -37,6 +42,13 @@ fmNext r = record { cph = r .cph; mph = r .mph }
 
 unfoldable pub fmStep : List Float → List Float → List Float → Float → Float → ℕ → Fm → Float × Fm
 fmStep f index pitch ratio srf k s = let r = fmOf (at f k) (at index k) ratio (at pitch k) srf (s .cph) (s .mph) in (r .out, fmNext r)
+
+-- its passes for the arguments: the modulator's; the carrier's, from the modulator's sines, ms
+unfoldable pub modulatorStep : List Float → List Float → Float → Float → ℕ → Float → Float × Float
+modulatorStep f pitch ratio srf k mph = (tau ⊗ mph, advance mph (hertz (at f k) (at pitch k) ⊗ ratio ⊘ srf))
+
+unfoldable pub carrierStep : List Float → List Float → List Float → List Float → Float → ℕ → Float → Float × Float
+carrierStep ms f index pitch srf k cph = (tau ⊗ cph ⊕ at index k ⊗ at ms k, advance cph (increment (at f k) (at pitch k) srf))
 
 unfoldable pub whiteStep : ℕ → ℕ → Float × ℕ
 whiteStep k word = let r = whiteOf word in (r .out, r .word)

@@ -2,8 +2,11 @@
 ghost use mathlib.Core.Path.{_≡_};
 ghost use Prim.Native.Nat.{_+_, _^_, _≤_, _<_};
 ghost use lib.ListN.{length};
+ghost use Rattle.dsl.specs.declared.Shape.the-variants.{Sine};
 ghost use Rattle.block.specs.Iterate.{given, after};
-ghost use Rattle.value_block.specs.Steps.{slideStep, lfoStep, envModStep, randStep};
+ghost use Rattle.value_block.specs.Steps.{slideStep, lfoStep, lfoArgumentStep, lfoLevelStep, envModStep, randStep};
+
+const TAU: f32 = 6.2831855;
 
 // A block whose positions are all below 2^24: the general conversion of a position, worked out for every sample of a
 // vectorised loop, takes longer than the rest.
@@ -55,6 +58,50 @@ pub fn slide_block(
     }
 }
 
+// ---- Lfo. A sine goes in passes: its arguments, their sines, which are independent of each other, and these about the center.
+
+fn lfo_arguments(out: &mut [f32], rate: f32, srf: f32, t: u64)
+    requires { ⌜ (t + length (now out) < 2 ^ 64) ⌝ }
+    ensures { λ v. ⌜ (now (out .exit) ≡ given (lfoArgumentStep rate srf t) tt (length (now (out .entry)))) ⌝ }
+{
+    let mut k: usize = 0;
+    while k < out.len() {
+        out[k] = TAU * value::lfo_phase(rate, srf, t + (k as u64));
+        k += 1;
+    }
+}
+
+fn lfo_levels(out: &mut [f32], depth: f32, center: f32)
+    ensures { λ v. ⌜ (now (out .exit) ≡ given (lfoLevelStep (now (out .entry)) depth center) tt (length (now (out .entry)))) ⌝ }
+{
+    let mut k: usize = 0;
+    while k < out.len() {
+        out[k] = center + depth * out[k];
+        k += 1;
+    }
+}
+
+fn lfo_sine(out: &mut [f32], rate: f32, depth: f32, center: f32, srf: f32, t: u64)
+    requires { ⌜ (t + length (now out) < 2 ^ 64) ⌝ }
+    ensures { λ v. ⌜ (now (out .exit) ≡ given (lfoStep Sine rate depth center srf t) tt (length (now (out .entry)))) ⌝ }
+{
+    lfo_arguments(out, rate, srf, t);
+    dsp::sin_block(out);
+    lfo_levels(out, depth, center);
+}
+
+// Any shape, in one pass.
+fn lfo_any(out: &mut [f32], shape: dsl::Shape, rate: f32, depth: f32, center: f32, srf: f32, t: u64)
+    requires { ⌜ (t + length (now out) < 2 ^ 64) ⌝ }
+    ensures { λ v. ⌜ (now (out .exit) ≡ given (lfoStep shape rate depth center srf t) tt (length (now (out .entry)))) ⌝ }
+{
+    let mut k: usize = 0;
+    while k < out.len() {
+        out[k] = value::lfo(shape, rate, depth, center, srf, t + (k as u64));
+        k += 1;
+    }
+}
+
 pub fn lfo_block(
     out: &mut [f32],
     shape: dsl::Shape,
@@ -67,10 +114,13 @@ pub fn lfo_block(
     requires { ⌜ (t + length (now out) < 2 ^ 64) ⌝ }
     ensures { λ v. ⌜ (now (out .exit) ≡ given (lfoStep shape rate depth center srf t) tt (length (now (out .entry)))) ⌝ }
 {
-    let mut k: usize = 0;
-    while k < out.len() {
-        out[k] = value::lfo(shape, rate, depth, center, srf, t + (k as u64));
-        k += 1;
+    match shape {
+        dsl::Shape::Sine => {
+            lfo_sine(out, rate, depth, center, srf, t);
+        }
+        _ => {
+            lfo_any(out, shape, rate, depth, center, srf, t);
+        }
     }
 }
 

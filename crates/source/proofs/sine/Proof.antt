@@ -6,7 +6,7 @@ use Rattle.source.proofs.sine.Tie as tie
 
 returns : tie.Need-returns
 unfolding sineOf
-returns c = rw (c .wrap .ensures, c .before .step-of .ensures, c .before .before .osc .ensures)
+returns c = rw (c .phase-next .ensures, c .before .osc .ensures)
 
 pub sine-spec : {M : Type 1} → statement M
-sine-spec = tie.close (tie.spec (λ c κs. search needs) (λ c κs. search needs) (λ c κs. search needs) returns)
+sine-spec = tie.close (tie.spec (λ c κs. search needs) (λ c κs. search needs) returns)

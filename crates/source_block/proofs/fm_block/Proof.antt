@@ -1,52 +1,22 @@
 -- `source_block::fm_block` meets its contract. Assumes nothing.
-use mathlib.Core.Path.{ap}
-use Prim.Native.Nat.{_-_}
-use native.Mathlib.Omega.{arith}
-use lib.ListN.{length}
-use lib.Ieee.{nan}
-use Rattle.block.specs.Loop.{Going, going-start, going-turn, going-end}
-use Rattle.source.specs.declared.FmOut.{FmOut}
-use Rattle.source_block.specs.Steps.{fmStep, fmNext}
+use mathlib.Core.Path.{ap, _∙_}
+use mathlib.Core.List.{map}
+use Rattle.dsp.specs.Math.{sine}
 use borrow.Author.Needs.{needs}
+use Rattle.source_block.proofs.Passes.{after-fm, given-fm}
 use Rattle.source_block.proofs.fm_block.Statement.{statement}
 use Rattle.source_block.proofs.fm_block.Tie as tie
 
-abbrev Inv-loop : tie.InvT-loop
-Inv-loop out₀ f index pitch ratio srf p₀ k₀ out p k = Going nan (fmStep f index pitch ratio srf) p₀ out₀ k out p
-
-abbrev μ-loop : tie.MeasureT-loop
-μ-loop out₀ f index pitch ratio srf p₀ k₀ out p k = length out₀ - k
-
-loop-holds : tie.Need-loop-holds Inv-loop μ-loop
-loop-holds c = going-start nan _ _ _
-
-loop-again : tie.Need-loop-again Inv-loop μ-loop
-unfolding fmStep
-loop-again c =
-    let l = c .before .before .before .before .before .loop in
-    going-turn nan _ _ _ (l .inv) (omega arith) (ap (λ (r : FmOut). r .out) (c .fm .ensures)) (ap fmNext (c .fm .ensures))
-
-returns : tie.Need-returns Inv-loop μ-loop
-returns c = going-end nan _ _ _ (c .before .loop .inv) (omega arith)
+returns : tie.Need-returns
+returns c =
+    let xs = c .before .before .before .before .before .before .fm-carriers .ensures in
+    let m = c .before .before .before .before .before .before .before .before .before .before .before .before .before .before .fm-modulators .ensures in
+    let ms = c .before .before .before .before .before .before .before .before .before .before .sin-block .ensures ∙ ap (map sine) (m .0) in (
+      c .before .before .sin-block2 .ensures ∙ ap (map sine) (xs .0) ∙ given-fm _ _ _ _ _ _ _ _ ms,
+      (λ i. record { cph = xs .1 i; mph = m .1 i }) ∙ after-fm _ _ _ _ _ _ _ _ ms,
+    )
 
 pub fm-block-spec : {M : Type 1} → statement M
 fm-block-spec =
     tie.close
-    (tie.spec
-    Inv-loop
-    μ-loop
-    loop-holds
-    (λ c. search needs)
-    (λ c. search needs)
-    (λ c. search needs)
-    (λ c. search needs)
-    (λ c. search needs)
-    (λ c. search needs)
-    (λ c κs. search needs)
-    (λ c. search needs)
-    (λ c. search needs)
-    (λ c. search needs)
-    (λ c. search needs)
-    loop-again
-    (λ c. search needs)
-    returns)
+    (tie.spec (λ c κs. search needs) (λ c κs. search needs) (λ c κs. search needs) (λ c κs. search needs) (λ c. search needs) returns)

@@ -1,50 +1,16 @@
 -- `source_block::sine_block` meets its contract. Assumes nothing.
-use mathlib.Core.Path.{ap}
-use Prim.Native.Nat.{_-_}
-use native.Mathlib.Omega.{arith}
-use lib.ListN.{length}
-use lib.Ieee.{nan}
-use Rattle.block.specs.Loop.{Going, going-start, going-turn, going-end}
-use Rattle.source.specs.declared.Phased.{Phased}
-use Rattle.source_block.specs.Steps.{sineStep}
+use mathlib.Core.Path.{ap, _∙_}
+use mathlib.Core.List.{map}
+use Rattle.dsp.specs.Math.{sine}
 use borrow.Author.Needs.{needs}
+use Rattle.source_block.proofs.Passes.{after-sine, given-sine}
 use Rattle.source_block.proofs.sine_block.Statement.{statement}
 use Rattle.source_block.proofs.sine_block.Tie as tie
 
-abbrev Inv-loop : tie.InvT-loop
-Inv-loop out₀ f pitch srf phase p₀ k₀ out p k = Going nan (sineStep f pitch srf) phase out₀ k out p
-
-abbrev μ-loop : tie.MeasureT-loop
-μ-loop out₀ f pitch srf phase p₀ k₀ out p k = length out₀ - k
-
-loop-holds : tie.Need-loop-holds Inv-loop μ-loop
-loop-holds c = going-start nan _ _ _
-
-loop-again : tie.Need-loop-again Inv-loop μ-loop
-unfolding sineStep
-loop-again c =
-    let l = c .before .before .before .before .loop in
-    going-turn nan _ _ _ (l .inv) (omega arith) (ap (λ (r : Phased). r .out) (c .sine .ensures)) (ap (λ (r : Phased). r .phase) (c .sine .ensures))
-
-returns : tie.Need-returns Inv-loop μ-loop
-returns c = going-end nan _ _ _ (c .before .loop .inv) (omega arith)
+returns : tie.Need-returns
+returns c =
+    let e = c .before .before .before .before .before .before .sine-arguments .ensures in
+    (c .before .before .sin-block .ensures ∙ ap (map sine) (e .0) ∙ given-sine _ _ _ _ _, e .1 ∙ after-sine _ _ _ _ _)
 
 pub sine-block-spec : {M : Type 1} → statement M
-sine-block-spec =
-    tie.close
-    (tie.spec
-    Inv-loop
-    μ-loop
-    loop-holds
-    (λ c. search needs)
-    (λ c. search needs)
-    (λ c. search needs)
-    (λ c. search needs)
-    (λ c κs. search needs)
-    (λ c. search needs)
-    (λ c. search needs)
-    (λ c. search needs)
-    (λ c. search needs)
-    loop-again
-    (λ c. search needs)
-    returns)
+sine-block-spec = tie.close (tie.spec (λ c κs. search needs) (λ c κs. search needs) (λ c. search needs) returns)
