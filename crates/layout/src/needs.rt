@@ -5,8 +5,6 @@ ghost use Prim.Native.Nat.{_+_, _*_, _≤_, _<_, min, max};
 ghost use lib.ListN.{length};
 ghost use Rattle.sheet.specs.Record.{kind, first, next};
 ghost use Rattle.sheet.specs.Tree.{records, spine};
-ghost use Rattle.sheet.specs.Checks.{sum};
-ghost use Rattle.lines.specs.Lines.{combLine, allpassLine};
 ghost use Rattle.layout.specs.Built.{role, isBuilt};
 ghost use Rattle.layout.specs.Needs.{noiseCells, reverbCells, cells};
 ghost use Rattle.layout.specs.Tables.{Table, Passed, roleCode, codeRole};
@@ -37,38 +35,15 @@ fn noise(colour: u8) -> u64
     if colour == 1 { 7 } else { 1 }
 }
 
-fn combs(rate: u32) -> u64
-    requires { ⌜ rate ≤ 192000 ⌝ }
-    ensures { λ r. ⌜ (r ≡ sum (λ k. combLine k rate) 6) × (r ≤ 38946) ⌝ }
-{
-    let mut n = 0u64;
-    let mut k = 0u64;
-    while k < 6 {
-        n += lines::comb_len(k, rate);
-        k += 1;
-    }
-    n
-}
-
-fn allpasses(rate: u32) -> u64
-    requires { ⌜ rate ≤ 192000 ⌝ }
-    ensures { λ r. ⌜ (r ≡ sum (λ k. allpassLine k rate) 4) × (r ≤ 9680) ⌝ }
-{
-    let mut n = 0u64;
-    let mut k = 0u64;
-    while k < 4 {
-        n += lines::allpass_len(k, rate);
-        k += 1;
-    }
-    n
-}
-
 // Six combs, four allpasses, and a store for each comb.
 fn reverb(rate: u32) -> u64
     requires { ⌜ rate ≤ 192000 ⌝ }
     ensures { λ r. ⌜ (r ≡ reverbCells rate) × (r ≤ 48632) ⌝ }
 {
-    combs(rate) + allpasses(rate) + 6
+    let mut lens = [0u64; 10];
+    lines::reverb_lens(rate, &mut lens);
+    let combs = lens[0] + lens[1] + lens[2] + lens[3] + lens[4] + lens[5];
+    combs + lens[6] + lens[7] + lens[8] + lens[9] + 6
 }
 
 // A record's cells, by the bytes from its first on, its kind, and how many records its chain has. A constant array by kind

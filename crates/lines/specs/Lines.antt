@@ -62,3 +62,18 @@ combLine k sr = tunedLine (getD combTunings k 0) sr
 
 abbrev pub allpassLine : ℕ → ℕ → ℕ
 allpassLine k sr = tunedLine (getD allpassTunings k 0) sr
+
+-- the lengths of the six combs and the four allpasses
+abbrev pub reverbLines : ℕ → List ℕ
+reverbLines sr =
+    combLine 0 sr
+    ∷ combLine 1 sr
+    ∷ combLine 2 sr
+    ∷ combLine 3 sr
+    ∷ combLine 4 sr
+    ∷ combLine 5 sr
+    ∷ allpassLine 0 sr
+    ∷ allpassLine 1 sr
+    ∷ allpassLine 2 sr
+    ∷ allpassLine 3 sr
+    ∷ []

@@ -1,6 +1,8 @@
 ghost use mathlib.Core.Path.{_≡_};
-ghost use Prim.Native.Nat.{_≤_, _<_, max};
-ghost use Rattle.lines.specs.Lines.{delayLine, chorusBase, chorusSwing, chorusLine, tunedLine, combLine, allpassLine};
+ghost use Prim.Native.Nat.{ℕ, _≤_, max};
+ghost use lib.ListN.{length};
+ghost use lib.Ieee.{binary32, div};
+ghost use Rattle.lines.specs.Lines.{single, tuningRate, delayLine, chorusBase, chorusSwing, chorusLine, tunedLine, combLine, allpassLine, reverbLines};
 
 // Also what a NaN counts as.
 const MAX_DELAY_SECS: f32 = 30.0;
@@ -9,11 +11,6 @@ const MAX_DELAY_SECS: f32 = 30.0;
 const CHORUS_BASE_SECS: f32 = 0.015;
 
 const CHORUS_SWING_SECS: f32 = 0.010;
-
-// In samples at 44,100 Hz.
-const FREEVERB_COMB_TUNINGS: [u64; 6] = [1116, 1188, 1277, 1356, 1422, 1491];
-
-const FREEVERB_ALLPASS_TUNINGS: [u64; 4] = [556, 441, 341, 225];
 
 // A line of no samples would have no place to write to.
 pub fn at_least_one(n: u64) -> u64
@@ -49,24 +46,27 @@ pub fn chorus_line_len(depth: f32, sr: u32) -> u64
     cast::f32_to_u64(chorus_base(sr) + chorus_swing(depth, sr)) + 2
 }
 
-// A tuning of t samples, at the rate sr.
-fn tuned_len(t: u64, sr: u32) -> u64
-    ensures { λ r. ⌜ r ≡ tunedLine t sr ⌝ }
+// A tuning of t samples at 44,100 Hz, at scale times that rate.
+fn tuned_by(t: f32, scale: f32) -> u64
+    ensures { λ r. ⌜ ((n sr : ℕ) → t ≡ single n → scale ≡ div binary32 (single sr) tuningRate → r ≡ tunedLine n sr) ⌝ }
+{
+    at_least_one(cast::f32_to_u64(t * scale))
+}
+
+// Freeverb's six combs, then its four allpasses.
+pub fn reverb_lens(sr: u32, lens: &mut [u64])
+    requires { ⌜ (sr ≤ 192000) × (length (now lens) ≡ 10) ⌝ }
+    ensures { λ v. ⌜ (now (lens .exit) ≡ reverbLines sr) × ((k : ℕ) → (1 ≤ combLine k sr) × (combLine k sr ≤ 6491)) × ((k : ℕ) → (1 ≤ allpassLine k sr) × (allpassLine k sr ≤ 2420)) ⌝ }
 {
     let scale = cast::u32_to_f32(sr) / 44100.0;
-    at_least_one(cast::f32_to_u64(cast::u64_to_f32(t) * scale))
-}
-
-pub fn comb_len(k: u64, sr: u32) -> u64
-    requires { ⌜ (k < 6) × (sr ≤ 192000) ⌝ }
-    ensures { λ r. ⌜ (r ≡ combLine k sr) × (1 ≤ r) × (r ≤ 6491) ⌝ }
-{
-    tuned_len(FREEVERB_COMB_TUNINGS[k as usize], sr)
-}
-
-pub fn allpass_len(k: u64, sr: u32) -> u64
-    requires { ⌜ (k < 4) × (sr ≤ 192000) ⌝ }
-    ensures { λ r. ⌜ (r ≡ allpassLine k sr) × (1 ≤ r) × (r ≤ 2420) ⌝ }
-{
-    tuned_len(FREEVERB_ALLPASS_TUNINGS[k as usize], sr)
+    lens[0] = tuned_by(1116.0, scale);
+    lens[1] = tuned_by(1188.0, scale);
+    lens[2] = tuned_by(1277.0, scale);
+    lens[3] = tuned_by(1356.0, scale);
+    lens[4] = tuned_by(1422.0, scale);
+    lens[5] = tuned_by(1491.0, scale);
+    lens[6] = tuned_by(556.0, scale);
+    lens[7] = tuned_by(441.0, scale);
+    lens[8] = tuned_by(341.0, scale);
+    lens[9] = tuned_by(225.0, scale);
 }

@@ -17,10 +17,11 @@ use Rattle.sheet.specs.Laws.{rest, all-at}
 use Rattle.layout.specs.Good.{good}
 use Rattle.layout.specs.Needs.{needOf, chainLength}
 use Rattle.layout.specs.Counts.{cellsWith, registersWith, cells-with, registers-with}
+use Rattle.lines.specs.Lines.{reverbLines}
 use Rattle.bank_block.specs.Banks.{lineFrom, Placed}
 use Rattle.block.specs.Iterate.{word}
 use Rattle.unit.specs.Own.{Own}
-use Rattle.unit.specs.Processors.{processorUnit, reverbLines}
+use Rattle.unit.specs.Processors.{processorUnit}
 use Rattle.unit.specs.Unit.{kindUnit}
 use Rattle.unit.specs.State.{placeOk, placesOk, phaseOk, ownOk}
 use Rattle.unit.specs.Block.{Lent}

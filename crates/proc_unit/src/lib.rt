@@ -12,11 +12,11 @@ ghost use Rattle.float.specs.Order.{maxOf, clampOf};
 ghost use Rattle.float.specs.Single.{zero, one};
 ghost use Rattle.control.specs.declared.Controls.{Controls};
 ghost use Rattle.sheet.specs.Record.{optionOf, numberOf};
-ghost use Rattle.lines.specs.Lines.{chorusBase, chorusSwing};
+ghost use Rattle.lines.specs.Lines.{chorusBase, chorusSwing, reverbLines};
 ghost use Rattle.dsp.specs.Coefficients.{feedbackOf};
 ghost use Rattle.bank_block.specs.Banks.{lineFrom, Placed};
 ghost use Rattle.block.specs.Iterate.{word};
-ghost use Rattle.unit.specs.Processors.{filterIn, filterCells, filterUnit, filterKindOf, filterQ, driveIn, driveCells, driveUnit, delayUnit, reverbLines, reverbUnit, modalUnit, chorusUnit, tremoloUnit, compressUnit, processorUnit};
+ghost use Rattle.unit.specs.Processors.{filterIn, filterCells, filterUnit, filterKindOf, filterQ, driveIn, driveCells, driveUnit, delayUnit, reverbUnit, modalUnit, chorusUnit, tremoloUnit, compressUnit, processorUnit};
 ghost use Rattle.unit.specs.Unit.{kindUnit};
 ghost use Rattle.unit.specs.State.{ownOk};
 ghost use Rattle.unit.specs.Block.{Ran, Lent};
@@ -34,23 +34,6 @@ fn delay(r: &[u8], out: &mut [f32], cells: &mut [f32], regs: &mut [u64])
     regs[0] = w;
 }
 
-// The lengths of the six combs' lines and of the four allpasses'.
-fn line_lengths(sr: u32, lens: &mut [u64])
-    requires { ⌜ (sr ≤ 192000) × (length (now lens) ≡ 10) ⌝ }
-    ensures { λ v. ⌜ now (lens .exit) ≡ reverbLines sr ⌝ }
-{
-    lens[0] = lines::comb_len(0, sr);
-    lens[1] = lines::comb_len(1, sr);
-    lens[2] = lines::comb_len(2, sr);
-    lens[3] = lines::comb_len(3, sr);
-    lens[4] = lines::comb_len(4, sr);
-    lens[5] = lines::comb_len(5, sr);
-    lens[6] = lines::allpass_len(0, sr);
-    lens[7] = lines::allpass_len(1, sr);
-    lens[8] = lines::allpass_len(2, sr);
-    lens[9] = lines::allpass_len(3, sr);
-}
-
 fn reverb_lines(r: &[u8], lens: &[u64], out: &mut [f32], cells: &mut [f32], regs: &mut [u64])
     requires { ⌜ (40 ≤ length (now r)) × Placed (now lens) (now regs) × (length (now cells) ≡ lineFrom (now lens) 10 + 6) ⌝ }
     ensures { λ v. ⌜ ((c : Controls) (sr : ℕ) → now (lens .entry) ≡ reverbLines sr → Ran (reverbUnit (feedbackOf (numberOf (now (r .entry)) 0)) (clampOf (numberOf (now (r .entry)) 1) zero one) sr) c [] (now (out .entry)) (now (cells .entry)) (now (regs .entry)) (now (out .exit)) (now (cells .exit)) (now (regs .exit))) ⌝ }
@@ -65,7 +48,7 @@ fn reverb(r: &[u8], sr: u32, out: &mut [f32], cells: &mut [f32], regs: &mut [u64
     ensures { λ v. ⌜ ((c : Controls) → Ran (reverbUnit (feedbackOf (numberOf (now (r .entry)) 0)) (clampOf (numberOf (now (r .entry)) 1) zero one) sr) c [] (now (out .entry)) (now (cells .entry)) (now (regs .entry)) (now (out .exit)) (now (cells .exit)) (now (regs .exit))) ⌝ }
 {
     let mut lens = [0u64; 10];
-    line_lengths(sr, &mut lens);
+    lines::reverb_lens(sr, &mut lens);
     reverb_lines(r, &lens, out, cells, regs);
 }
 

@@ -1,20 +1,18 @@
--- Check 9 as the code makes it: the lines of a Reverb by their index, a test that fails, and a record whose kind is not checked.
+-- Check 9 as the code makes it: a place of a Reverb, a test that fails, and a record whose kind is not checked.
 use mathlib.Core.Path.{_≡_, refl, sym, ap, ap₂, _∙_}
 use mathlib.Core.Bool.{Bool, true, false, not, cond, _&&_}
 use mathlib.Core.List.{List}
 use mathlib.Core.Logic.{_≢_}
-use Prim.Native.Nat.{ℕ, zero, suc, _+_, _-_, _≤_, _<_}
+use Prim.Native.Nat.{ℕ, zero, suc, _≤_, _<_}
 use native.Mathlib.Omega.{arith}
 use native.Mathlib.Decide.{ℕ-discrete}
 use borrow.Author.Tests.{ne-eqb}
-use Rattle.lines.specs.Lines.{combLine, allpassLine}
 use Rattle.sheet.specs.Record.{kind}
 use Rattle.sheet.specs.Checks.{all}
 use lib.Dec.{ltb}
 use lib.Ieee.{Float}
 use Rattle.block.specs.Iterate.{word}
 use Rattle.unit.specs.Own.{Own}
-use Rattle.unit.specs.Processors.{reverbLines}
 use Rattle.layout.specs.Built.{role, isBuilt}
 use Rattle.layout.specs.Needs.{cells, registers, cellsFrom, registersFrom}
 use Rattle.layout.specs.Tables.{roleCode}
@@ -22,31 +20,9 @@ use Rattle.tree.specs.Flat.{seg}
 use Rattle.unit.specs.State.{ownOk, recordOk}
 use Rattle.state.specs.Parts.{on-built}
 
--- ---- the lines: six combs, then four allpasses
-pub comb-line : (rate k : ℕ) → k < 6 → combLine k rate ≡ word (reverbLines rate) k
-comb-line rate zero h = refl
-comb-line rate (suc zero) h = refl
-comb-line rate (suc (suc zero)) h = refl
-comb-line rate (suc (suc (suc zero))) h = refl
-comb-line rate (suc (suc (suc (suc zero)))) h = refl
-comb-line rate (suc (suc (suc (suc (suc zero))))) h = refl
-comb-line rate (suc (suc (suc (suc (suc (suc k)))))) h = let x : ⊥ = omega arith in absurd x
-
-allpass-from : (rate j : ℕ) → j < 4 → allpassLine j rate ≡ word (reverbLines rate) (6 + j)
-allpass-from rate zero h = refl
-allpass-from rate (suc zero) h = refl
-allpass-from rate (suc (suc zero)) h = refl
-allpass-from rate (suc (suc (suc zero))) h = refl
-allpass-from rate (suc (suc (suc (suc j)))) h = let x : ⊥ = omega arith in absurd x
-
-pub allpass-line : (rate k : ℕ) → 6 ≤ k → k < 10 → allpassLine (k - 6) rate ≡ word (reverbLines rate) k
-allpass-line rate k l h =
-    let e : 6 + (k - 6) ≡ k = omega arith in
-    allpass-from rate (k - 6) (omega arith) ∙ ap (word (reverbLines rate)) e
-
 -- place k is below its line's length
-abbrev pub placeTest : ℕ → List ℕ → ℕ → Bool
-placeTest rate rs k = ltb (word rs k) (word (reverbLines rate) k)
+abbrev pub placeTest : List ℕ → List ℕ → ℕ → Bool
+placeTest lens rs k = ltb (word rs k) (word lens k)
 
 -- ---- one test that fails
 pub not-true : (b : Bool) → not b ≡ true → b ≡ false

@@ -2,38 +2,36 @@
 ghost use mathlib.Core.Path.{_≡_};
 ghost use Prim.Native.Nat.{_+_, _≤_, _<_};
 ghost use lib.ListN.{length};
+ghost use Rattle.lines.specs.Lines.{reverbLines};
 ghost use Rattle.sheet.specs.Record.{rateOf, kind};
+ghost use Rattle.sheet.specs.Checks.{all};
 ghost use Rattle.layout.specs.Built.{role};
 ghost use Rattle.layout.specs.Needs.{cellsBy, registersBy, cellsFrom, registersFrom};
 ghost use Rattle.layout.specs.Tables.{Table, Passed, roleCode};
-ghost use Rattle.block.specs.Iterate.{word};
-ghost use Rattle.unit.specs.Processors.{reverbLines};
 ghost use Rattle.unit.specs.State.{placeOk, placesOk, phaseOk, ownOk, recordOk};
+ghost use Rattle.state.specs.Rings.{placeTest};
 
-// The combs' lines, then the allpasses'.
-fn line_len(k: u64, rate: u32) -> u64
-    requires { ⌜ (k < 10) × (rate ≤ 192000) ⌝ }
-    ensures { λ r. ⌜ r ≡ word (reverbLines rate) k ⌝ }
+fn places_below(lens: &[u64], words: &[u64]) -> bool
+    requires { ⌜ (length (now lens) ≡ 10) × (length (now words) ≡ 10) ⌝ }
+    ensures { λ r. ⌜ r ≡ all (placeTest (now (lens .entry)) (now (words .entry))) 10 ⌝ }
 {
-    if k < 6 {
-        lines::comb_len(k, rate)
-    } else {
-        lines::allpass_len(k - 6, rate)
+    let mut k = 0usize;
+    while k < 10 {
+        if words[k] >= lens[k] {
+            return false;
+        }
+        k += 1;
     }
+    true
 }
 
 fn places_ok(rate: u32, own: &[f32], words: &[u64]) -> bool
     requires { ⌜ (rate ≤ 192000) × (length (now words) ≡ 10) ⌝ }
     ensures { λ r. ⌜ r ≡ placesOk (reverbLines rate) (now (own .entry), now (words .entry)) ⌝ }
 {
-    let mut k = 0usize;
-    while k < 10 {
-        if words[k] >= line_len(k as u64, rate) {
-            return false;
-        }
-        k += 1;
-    }
-    true
+    let mut lens = [0u64; 10];
+    lines::reverb_lens(rate, &mut lens);
+    places_below(&lens, words)
 }
 
 fn place_ok(own: &[f32], words: &[u64]) -> bool

@@ -22,7 +22,7 @@ use Rattle.block.specs.Iterate.{at, word}
 use Rattle.dsl.specs.declared.SuperWave.{SuperWave}
 use Rattle.dsl.specs.declared.NoiseColor.the-variants.{Brown}
 use Rattle.dsl.specs.Options.{noiseColorOf}
-use Rattle.lines.specs.Lines.{delayLine, chorusBase, chorusSwing, chorusLine, tunedLine}
+use Rattle.lines.specs.Lines.{delayLine, chorusBase, chorusSwing, chorusLine, tunedLine, reverbLines}
 use Rattle.dsp.specs.Coefficients.{feedbackOf}
 use Rattle.proc.specs.Effects.{nextPlace}
 use Rattle.source.specs.Oscillators.{hertz}
@@ -46,7 +46,7 @@ use Rattle.layout.specs.Counts.{cellsWith, registersWith, cells-with, registers
 use Rattle.unit.specs.Own.{Own, Ugen, stateless, silentUnit}
 use Rattle.unit.specs.Values.{randUnit, valueUnit, walkOf}
 use Rattle.unit.specs.Sources.{sineUnit, squareUnit, sawUnit, triangleUnit, fmUnit, superUnit, whiteUnit, pinkUnit, brownUnit, noiseUnit, dustUnit, sourceUnit}
-use Rattle.unit.specs.Processors.{filterUnit, delayUnit, chorusUnit, reverbLines, reverbUnit, modalUnit, antialiasedUnit, driveUnit, compressUnit, processorUnit}
+use Rattle.unit.specs.Processors.{filterUnit, delayUnit, chorusUnit, reverbUnit, modalUnit, antialiasedUnit, driveUnit, compressUnit, processorUnit}
 use Rattle.unit.specs.Unit.{stepsOf, srf, kindUnit, unitOf}
 use Rattle.unit.specs.State.{placeOk, placesOk, phaseOk, ownOk}
 use Rattle.unit.specs.Start.{modalStart, startCells, startRegisters}

@@ -14,7 +14,7 @@ use Rattle.dsl.specs.Options.{driveShapeOf}
 use Rattle.render.specs.declared.FilterKind.{FilterKind}
 use Rattle.render.specs.declared.FilterKind.the-variants.{Low, High, Band, Notch, Peak, LowShelf, HighShelf}
 use Rattle.sheet.specs.Record.{optionOf, numberOf}
-use Rattle.lines.specs.Lines.{chorusBase, chorusSwing, combLine, allpassLine}
+use Rattle.lines.specs.Lines.{chorusBase, chorusSwing, reverbLines}
 use Rattle.dsp.specs.Coefficients.{feedbackOf}
 use Rattle.proc.specs.declared.Filter.{Filter}
 use Rattle.proc.specs.declared.Drive.{Drive}
@@ -63,21 +63,6 @@ chorusUnit base swing rate srf mix c vs x o =
     let line = set (o .0) w x in
     let r = chorusRead base swing rate srf (length (o .0)) w (c .position) in
     (chorusOf mix (r .frac) x (at line (r .i0)) (at line (r .i1)), (line, nextPlace w (length (o .0)) ∷ []))
-
--- the lengths of the six combs and the four allpasses
-abbrev pub reverbLines : ℕ → List ℕ
-reverbLines sr =
-    combLine 0 sr
-    ∷ combLine 1 sr
-    ∷ combLine 2 sr
-    ∷ combLine 3 sr
-    ∷ combLine 4 sr
-    ∷ combLine 5 sr
-    ∷ allpassLine 0 sr
-    ∷ allpassLine 1 sr
-    ∷ allpassLine 2 sr
-    ∷ allpassLine 3 sr
-    ∷ []
 
 unfoldable pub reverbUnit : Float → Float → ℕ → Ugen
 reverbUnit feedback mix sr c vs x o = reverbOf feedback mix (reverbLines sr) x o

@@ -10,10 +10,10 @@ use Rattle.block.specs.Iterate.{at, word}
 use Rattle.sheet.specs.Record.{countOf, rateOf, kind}
 use Rattle.sheet.specs.Checks.{all}
 use Rattle.tree.specs.Flat.{own}
+use Rattle.lines.specs.Lines.{reverbLines}
 use Rattle.layout.specs.Built.{role, isBuilt}
 use Rattle.layout.specs.Counts.{layoutOf}
 use Rattle.unit.specs.Own.{Own}
-use Rattle.unit.specs.Processors.{reverbLines}
 
 -- Delay and Chorus have one line, which is all their cells
 abbrev pub placeOk : Own → Bool

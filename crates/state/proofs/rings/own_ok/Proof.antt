@@ -1,8 +1,8 @@
 -- `state::rings::own_ok` meets its contract. By the kind. Assumes nothing.
 use mathlib.Core.Path.{sym, ap, _∙_}
 use native.Mathlib.Omega.{arith}
+use Rattle.lines.specs.Lines.{reverbLines}
 use Rattle.layout.specs.Needs.{needOf, cellsBy, registersBy}
-use Rattle.unit.specs.Processors.{reverbLines}
 use Rattle.unit.specs.State.{placesOk, ownOk}
 use Rattle.state.specs.Rings.{unchecked}
 use borrow.Author.Needs.{needs}

@@ -1,59 +1,22 @@
--- `state::rings::places_ok` meets its contract. The places below k are inside their lines. Assumes nothing.
-use mathlib.Core.Path.{_≡_, refl, sym, ap, ap₂, _∙_}
-use mathlib.Core.Bool.{true, _&&_}
-use Prim.Native.Nat.{_-_, _≤_}
-use native.Mathlib.Omega.{arith}
-use borrow.Author.Tests.{lt-ltb, le-ltb}
+-- `state::rings::places_ok` meets its contract. Assumes nothing.
+use mathlib.Core.Path.{ap, _∙_}
 use Rattle.sheet.specs.Checks.{all}
-use Rattle.sheet.specs.Laws.{all-suc}
-use Rattle.block.specs.Iterate.{word}
-use Rattle.unit.specs.Processors.{reverbLines}
-use Rattle.state.specs.Rings.{placeTest, all-not}
+use Rattle.state.specs.Rings.{placeTest}
 use borrow.Author.Needs.{needs}
 use Rattle.state.proofs.rings.places_ok.Statement.{statement}
 use Rattle.state.proofs.rings.places_ok.Tie as tie
 
-abbrev Inv-loop : tie.InvT-loop
-Inv-loop rate own words k₀ k = (k ≤ 10) × (all (placeTest rate words) k ≡ true)
-
-abbrev μ-loop : tie.MeasureT-loop
-μ-loop rate own words k₀ k = 10 - k
-
-loop-holds : tie.Need-loop-holds Inv-loop μ-loop
-unfolding all
-loop-holds c = (omega arith, refl)
-
-returns : tie.Need-returns Inv-loop μ-loop
+returns : tie.Need-returns
 returns c =
-    let s = (c .before .before .before .before .before .before .before) .args in
-    let l = (c .before .before .before .before) .loop in
-    sym (all-not (placeTest (s .rate) (s .words .now)) 10 (l .k) ((c .before .before .before) .loop-test .taken) (le-ltb (word (s .words .now) (l .k)) (word (reverbLines (s .rate)) (l .k)) (omega (arith, (c .before) .line-len .ensures, c .if1 .taken))))
-
-loop-again : tie.Need-loop-again Inv-loop μ-loop
-loop-again c =
-    let s = (c .before .before .before .before .before .before .before) .args in
-    let l = (c .before .before .before .before) .loop in
-    (omega arith, all-suc (placeTest (s .rate) (s .words .now)) (l .k) ∙ ap₂ _&&_ (l .inv .1) (lt-ltb (word (s .words .now) (l .k)) (word (reverbLines (s .rate)) (l .k)) (omega (arith, (c .before) .line-len .ensures, c .if1 .left))))
-
-returns-2 : tie.Need-returns-2 Inv-loop μ-loop
-returns-2 c =
-    let s = (c .before .before .before .before) .args in
-    let l = (c .before) .loop in
-    let e : l .k ≡ 10 = omega arith in
-    sym (l .inv .1) ∙ ap (all (placeTest (s .rate) (s .words .now))) e
+    let s = c .before .before .before .before .before .before .before .args in
+    c .places-below .ensures ∙ ap (λ lens. all (placeTest lens (s .words .now)) 10) (c .before .before .before .reverb-lens .ensures .0)
 
 pub places-ok-spec : {M : Type 1} → statement M
 places-ok-spec =
     tie.close
     (tie.spec
-    Inv-loop
-    μ-loop
-    loop-holds
-    (λ c. search needs)
     (λ c. search needs)
     (λ c κs. search needs)
-    returns
     (λ c. search needs)
-    (λ c. search needs)
-    loop-again
-    returns-2)
+    (λ c κs. search needs)
+    returns)

@@ -1,0 +1,77 @@
+-- `lines::reverb_lens` meets its contract. Assumes nothing.
+use mathlib.Core.Path.{_≡_, refl, ap, _∙_}
+use mathlib.Core.List.{[], _∷_}
+use native.Mathlib.Omega.{arith}
+use lib.Seq.{length-sets, lt-length-sets}
+use lib.Ieee.{binary32, ofBits, ofInt, round, units, div}
+use Rattle.tree.specs.Lists.{stored}
+use Rattle.lines.specs.Lines.{single, tuningRate}
+use Rattle.lines.proofs.Lengths.{tuned-ge, comb-le, allpass-le}
+use borrow.Author.Needs.{needs}
+use Rattle.lines.proofs.reverb_lens.Statement.{statement}
+use Rattle.lines.proofs.reverb_lens.Tie as tie
+
+-- the tunings as the code has them
+tunings : (ofBits binary32 0x448b_8000 ≡ single 1116)
+    × (ofBits binary32 0x4494_8000 ≡ single 1188)
+    × (ofBits binary32 0x449f_a000 ≡ single 1277)
+    × (ofBits binary32 0x44a9_8000 ≡ single 1356)
+    × (ofBits binary32 0x44b1_c000 ≡ single 1422)
+    × (ofBits binary32 0x44ba_6000 ≡ single 1491)
+    × (ofBits binary32 0x440b_0000 ≡ single 556)
+    × (ofBits binary32 0x43dc_8000 ≡ single 441)
+    × (ofBits binary32 0x43aa_8000 ≡ single 341)
+    × (ofBits binary32 0x4361_0000 ≡ single 225)
+unfolding ofBits ofInt round units
+tunings = (refl, refl, refl, refl, refl, refl, refl, refl, refl, refl)
+
+returns : tie.Need-returns
+returns c =
+    let s = c .before .before .before .before .before .before .before .before .before .before .before .before in
+    let sr = s .args .sr in
+    let l = tunings in
+    let q = ap (λ x. div binary32 x tuningRate) (c .before .before .before .before .before .before .before .before .before .before .u32-to-f32 .ensures) in (
+      stored (_ ∷ _ ∷ _ ∷ _ ∷ _ ∷ _ ∷ _ ∷ _ ∷ _ ∷ _ ∷ []) (s .args .lens .now) (s .pre .1)
+          ∙ (λ i.
+          c .before .before .before .before .before .before .before .before .before .tuned-by .ensures 1116 sr (l .0) q i
+          ∷ c .before .before .before .before .before .before .before .before .tuned-by2 .ensures 1188 sr (l .1) q i
+          ∷ c .before .before .before .before .before .before .before .tuned-by3 .ensures 1277 sr (l .2) q i
+          ∷ c .before .before .before .before .before .before .tuned-by4 .ensures 1356 sr (l .3) q i
+          ∷ c .before .before .before .before .before .tuned-by5 .ensures 1422 sr (l .4) q i
+          ∷ c .before .before .before .before .tuned-by6 .ensures 1491 sr (l .5) q i
+          ∷ c .before .before .before .tuned-by7 .ensures 556 sr (l .6) q i
+          ∷ c .before .before .tuned-by8 .ensures 441 sr (l .7) q i
+          ∷ c .before .tuned-by9 .ensures 341 sr (l .8) q i
+          ∷ c .tuned-by10 .ensures 225 sr (l .9) q i
+          ∷ []),
+      λ k. (tuned-ge _ sr, comb-le sr (s .pre .0) k),
+      λ k. (tuned-ge _ sr, allpass-le sr (s .pre .0) k),
+    )
+
+pub reverb-lens-spec : {M : Type 1} → statement M
+reverb-lens-spec =
+    tie.close
+    (tie.spec
+    (λ c κs. search needs)
+    (λ c κs. search needs)
+    (λ c. search needs)
+    (λ c κs. search needs)
+    (λ c. search needs)
+    (λ c κs. search needs)
+    (λ c. search needs)
+    (λ c κs. search needs)
+    (λ c. search needs)
+    (λ c κs. search needs)
+    (λ c. lt-length-sets (c .before .before .before .before .before .before .before .args .lens .now) 0 (_ ∷ _ ∷ _ ∷ _ ∷ []) {k = 4} (omega arith))
+    (λ c κs. search needs)
+    (λ c. lt-length-sets (c .before .before .before .before .before .before .before .before .args .lens .now) 0 (_ ∷ _ ∷ _ ∷ _ ∷ _ ∷ []) {k = 5} (omega arith))
+    (λ c κs. search needs)
+    (λ c. lt-length-sets (c .before .before .before .before .before .before .before .before .before .args .lens .now) 0 (_ ∷ _ ∷ _ ∷ _ ∷ _ ∷ _ ∷ []) {k = 6} (omega arith))
+    (λ c κs. search needs)
+    (λ c. lt-length-sets (c .before .before .before .before .before .before .before .before .before .before .args .lens .now) 0 (_ ∷ _ ∷ _ ∷ _ ∷ _ ∷ _ ∷ _ ∷ []) {k = 7} (omega arith))
+    (λ c κs. search needs)
+    (λ c. lt-length-sets (c .before .before .before .before .before .before .before .before .before .before .before .args .lens .now) 0 (_ ∷ _ ∷ _ ∷ _ ∷ _ ∷ _ ∷ _ ∷ _ ∷ []) {k = 8} (omega arith))
+    (λ c κs. search needs)
+    (λ c. lt-length-sets (c .before .before .before .before .before .before .before .before .before .before .before .before .args .lens .now) 0 (_ ∷ _ ∷ _ ∷ _ ∷ _ ∷ _ ∷ _ ∷ _ ∷ _ ∷ []) {k = 9} (omega arith))
+    (λ c. length-sets (c .before .before .before .before .before .before .before .before .before .before .before .before .args .lens .now) 0 (_ ∷ _ ∷ _ ∷ _ ∷ _ ∷ _ ∷ _ ∷ _ ∷ _ ∷ _ ∷ []))
+    returns)
