@@ -1,7 +1,7 @@
 -- How the code writes what a chain holds, and what a record is as a member of a chain, as numbers.
 use mathlib.Core.Bool.{cond}
 use mathlib.Core.List.{List, [], _∷_}
-use Prim.Native.Nat.{ℕ, zero, suc}
+use Prim.Native.Nat.{ℕ}
 use lib.Dec.{eqb, ltb}
 use Rattle.sheet.specs.Kinds.{Chain, empty, values, nodes, modes, steps, isNode, isValue}
 
@@ -15,11 +15,6 @@ classOf k = cond (isValue k) 2 (cond (isNode k) 3 (cond (eqb k 51) 4 (cond (eqb 
 -- what the members of a chain are, by the chain's code
 abbrev pub wantOf : ℕ → ℕ
 wantOf c = cond (ltb c 2) 2 c
-
--- the place after the last of n numbers that is not zero
-unfoldable pub lastOf : (ℕ → ℕ) → ℕ → ℕ
-lastOf f zero = 0
-lastOf f (suc n) = let t = lastOf f n in cond (eqb (f n) 0) t (suc n)
 
 -- the tables of the code, which Table shows to be right
 abbrev pub optionsTable : List ℕ

@@ -1,5 +1,5 @@
 -- Laws of tests, of `all`, `every` and `sum`, and of the part of a slice from a place on
-use mathlib.Core.Path.{_≡_, refl, sym, ap₂}
+use mathlib.Core.Path.{_≡_, refl, sym, ap₂, _∙_}
 use mathlib.Core.Bool.{Bool, true, false, _&&_}
 use mathlib.Core.List.{List, [], _∷_}
 use Prim.Native.Nat.{ℕ, zero, suc, _+_, _-_, _≤_, _<_}
@@ -59,10 +59,9 @@ unfolding all
 all-of p zero h = refl
 all-of p (suc n) h = rw (all-of p n (λ i l. h i (omega arith)), h n (omega arith))
 
-pub all-same : (p q : ℕ → Bool) (n : ℕ) → ((i : ℕ) → i < n → p i ≡ q i) → all p n ≡ all q n
-unfolding all
-all-same p q zero h = refl
-all-same p q (suc n) h = ap₂ _&&_ (all-same p q n (λ i l. h i (omega arith))) (h n (omega arith))
+-- one that fails is enough
+pub all-fails : (p : ℕ → Bool) (n i : ℕ) → i < n → p i ≡ false → all p n ≡ false
+all-fails p n i h e = same (all p n) false (λ a. sym e ∙ all-at p n a i h) (λ q. never (sym q))
 
 -- ---- every
 pub every-same : (p q : ℕ → Bool) → ((k : ℕ) → p k ≡ q k) → (xs : List ℕ) → every p xs ≡ every q xs

@@ -5,6 +5,7 @@ pub mod Kinds
 pub mod Tree
 pub mod Checks
 pub mod Codes
+pub mod Decoding
 pub mod Links
 pub mod Below
 pub mod Laws

@@ -50,12 +50,21 @@ bump t l j h = elim (ℕ-discrete l j) [
   | no d ↦ let z = hit-not l j d in getD-set-other t l j (at t l + 1) 0 (λ q. d (sym q)) ∙ omega arith
 ]
 
+pub count-start : {f x : ℕ → ℕ} {n : ℕ} → Links f x n → (t : List ℕ) → f 0 < length t → ((j : ℕ) → at t j ≡ 0) → Counted f x n (set t (f 0) 1) 1
+unfolding sum
+count-start {f} {x} l t h z = record {
+  is = λ j g. omega (arith, ap (λ (v : ℕ). at (set t (f 0) v) j) one ∙ bump t (f 0) j h, z j, sum-suc (hitsAt f x j) 0, ap (λ (m : ℕ). hit m j) (l .root-next));
+}
+  where
+    one : 1 ≡ at t (f 0) + 1
+    one = omega (arith, z (f 0))
+
 module _ {f x : ℕ → ℕ} {n i : ℕ} {t : List ℕ} (c : Counted f x n t i) where
   pub count-first : (l : ℕ) → l < n → at t l ≤ 2 * i
   count-first l h = omega (arith, c .is l h, hits-most f x l i)
 
   pub count-next : (l m : ℕ) → l < length t → m < n → at (set t l (at t l + 1)) m ≤ 2 * i + 1
-  count-next l m h g = omega (arith, bump t l m h, c .is m g, hits-most f x m i, hit-most l m)
+  count-next l m h g = omega (arith, bump t l m h, count-first m g, hit-most l m)
 
   pub count-turn : f i < length t → x i < length t → Counted f x n (set (set t (f i) (at t (f i) + 1)) (x i) (at (set t (f i) (at t (f i) + 1)) (x i) + 1)) (i + 1)
   count-turn h g = record {
@@ -70,6 +79,26 @@ module _ {f x : ℕ → ℕ} {n : ℕ} (l : Links f x n) (some : 1 ≤ n) where
 
   pub next-below : (i : ℕ) → x i < n
   next-below i = elim (ℕ-discrete (x i) 0) [ yes e ↦ omega arith | no d ↦ l .next-in i d .1 ]
+
+-- ---- a record's links come from below it, so that they are counted at its turn
+module _ {f x : ℕ → ℕ} {n : ℕ} (l : Links f x n) where
+  settled : (j i : ℕ) → j ≢ 0 → j ≤ i → sum (hitsAt f x j) i ≡ sum (hitsAt f x j) j
+  unfolding sum
+  settled j zero d h = let e : j ≡ 0 = omega arith in absurd (d e)
+  settled j (suc i) d h = elim (ℕ-discrete j (suc i)) [
+    | yes e ↦ ap (sum (hitsAt f x j)) (sym e)
+    | no g ↦
+        let a = hit-not (f i) j (λ e. omega (arith, l .first-in i (λ z. d (sym e ∙ z)) .0)) in
+        let b = hit-not (x i) j (λ e. omega (arith, l .next-in i (λ z. d (sym e ∙ z)) .0)) in
+        omega (arith, settled j i d (omega arith), a, b)
+  ]
+
+  pub once-turn : {t : List ℕ} {i : ℕ} → Counted f x n t i → i ≢ 0 → i < n → eqb (at t i) 1 ≡ onceAt f x n i
+  unfolding onceAt
+  once-turn {t} {i} c d h = rw (ne-eqb i 0 d) (ap (λ (v : ℕ). eqb v 1) (go (at t i) (c .is i h) (hit-not 0 i (λ e. d (sym e))) (settled i n d (omega arith))))
+    where
+      go : (v : ℕ) → v + hit 0 i ≡ sum (hitsAt f x i) i → hit 0 i ≡ 0 → sum (hitsAt f x i) n ≡ sum (hitsAt f x i) i → v ≡ sum (hitsAt f x i) n
+      go v p q r = omega arith
 
 -- ---- no record is linked twice
 module _ {f x : ℕ → ℕ} {n : ℕ} (l : Links f x n) (o : all (onceAt f x n) n ≡ true) where
@@ -172,6 +201,16 @@ holds-is (suc (suc (suc (suc zero)))) ks h = holds-any (λ k. eqb k 51) (λ k. e
 holds-is (suc (suc (suc (suc (suc zero))))) ks h = holds-any (λ k. eqb k 52) (λ k. eqb (classOf k) 5) (λ k. entry k .step) ks
 holds-is (suc (suc (suc (suc (suc (suc c)))))) ks h = let z : ⊥ = omega arith in absurd z
 
+pub holds-nil : (c : ℕ) → c ≤ 5 → (eqb c 0 || ltb 2 c) ≡ holds (chainOf c) []
+unfolding holds chainOf every
+holds-nil zero h = refl
+holds-nil (suc zero) h = refl
+holds-nil (suc (suc zero)) h = refl
+holds-nil (suc (suc (suc zero))) h = refl
+holds-nil (suc (suc (suc (suc zero)))) h = refl
+holds-nil (suc (suc (suc (suc (suc zero))))) h = refl
+holds-nil (suc (suc (suc (suc (suc (suc c)))))) h = let z : ⊥ = omega arith in absurd z
+
 -- THE INVARIANT of a loop along a chain from start on, now at j: what is counted so far with what is left makes the whole
 pub record Walked (p : ℕ → Bool) (k f x : ℕ → ℕ) (n start : ℕ) (a : Bool) (c j : ℕ) : Type 0 where
   pub inside : j < n
@@ -201,6 +240,11 @@ module _ {f x : ℕ → ℕ} {n : ℕ} (l : Linked f x n) {p : ℕ → Bool} {k 
 
   pub walk-count : {j : ℕ} → Walked p k f x n start a c j → j ≡ 0 → c ≡ length (along k f x n start)
   walk-count {j} w e = omega (arith, w .count-is, ap (λ (i : ℕ). length (along k f x n i)) e, ap length (along-nil k f x n))
+
+-- a member that is not so ends it
+pub walk-stop : {f x : ℕ → ℕ} {n : ℕ} → Linked f x n → {p : ℕ → Bool} {k : ℕ → ℕ} {start c j : ℕ} → Walked p k f x n start true c j → j ≢ 0 → p (k j) ≡ false → false ≡ every p (along k f x n start)
+unfolding every
+walk-stop {f} {x} {n} l {p} {k} {j = j} w d e = sym (w .all-is ∙ ap (every p) (along-cons l k j d (w .inside)) ∙ ap (λ (t : Bool). t && every p (along k f x n (x j))) e)
 
 -- ---- how deep a chain goes: a member that is within the room leaves it to those after it, and one that is not decides
 within : (r a b : ℕ) → a ≤ r → ltb r (max a b) ≡ ltb r b

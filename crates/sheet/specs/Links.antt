@@ -34,9 +34,9 @@ pub record Linked (f x : ℕ → ℕ) (n : ℕ) : Type 0 where
 abbrev pub hitsAt : (ℕ → ℕ) → (ℕ → ℕ) → ℕ → ℕ → ℕ
 hitsAt f x j i = hit (f i) j + hit (x i) j
 
--- below m the table t counts the links of the records below i
+-- below m the table t counts the links of the records below i, but for record 0's next, which is 0
 pub record Counted (f x : ℕ → ℕ) (m : ℕ) (t : List ℕ) (i : ℕ) : Type 0 where
-  pub is : (j : ℕ) → j < m → at t j ≡ sum (hitsAt f x j) i
+  pub is : (j : ℕ) → j < m → at t j + hit 0 j ≡ sum (hitsAt f x j) i
 
 unfoldable pub onceAt : (ℕ → ℕ) → (ℕ → ℕ) → ℕ → ℕ → Bool
 onceAt f x n j = eqb j 0 || eqb (sum (hitsAt f x j) n) 1

@@ -46,7 +46,7 @@ right : ℕ → Bool
 right k =
     eqb (getD optionsTable k 0) (rowOf k .options)
     && eqb (getD numbersTable k 0) (rowOf k .numbers)
-    && leb (rowOf k .numbers) 8
+    && leb (rowOf k .numbers) 7
     && eqb (mark (chainOf (getD chainsTable k 0))) (mark (rowOf k .chain))
     && eqb (getD classesTable k 0) (classOf k)
     && leb (getD chainsTable k 0) 5
@@ -80,7 +80,7 @@ row-past k h = lookup-past rows k refl h
 pub record Entry (k : ℕ) : Type 0 where
   pub options-is : getD optionsTable k 0 ≡ rowOf k .options
   pub numbers-is : getD numbersTable k 0 ≡ rowOf k .numbers
-  pub numbers-most : rowOf k .numbers ≤ 8
+  pub numbers-most : rowOf k .numbers ≤ 7
   pub chain-is : chainOf (getD chainsTable k 0) ≡ rowOf k .chain
   pub class-is : getD classesTable k 0 ≡ classOf k
   pub chain-most : getD chainsTable k 0 ≤ 5

@@ -1,14 +1,15 @@
-// Checks 1 to 7 of document 01. One pass over the records fills tables of their kinds and links and makes checks 3
-// and 4; the others go by the tables.
+// Checks 1 to 7 of document 01. A pass over the records fills tables of their kinds and links and makes checks 3 and 4;
+// the others go by the tables.
 ghost use mathlib.Core.Path.{_≡_};
-ghost use mathlib.Core.Bool.{true, cond, _||_};
-ghost use Prim.Native.Nat.{ℕ, _+_, _-_, _*_, _≤_, _<_};
-ghost use lib.Dec.{ltb, eqb};
+ghost use mathlib.Core.Bool.{true};
+ghost use Prim.Native.Nat.{ℕ, _+_, _-_, _*_, _≤_, _<_, min};
+ghost use lib.Dec.{eqb, ltb};
 ghost use lib.ListN.{length};
-ghost use Rattle.sheet.specs.Record.{countOf, bitsOf};
+ghost use Rattle.sheet.specs.Bytes.{byteAt, u64At};
+ghost use Rattle.sheet.specs.Record.{countOf};
 ghost use Rattle.sheet.specs.Checks.{all, every, lengthOk, headerOk, recordOk, linkOk};
-ghost use Rattle.sheet.specs.Codes.{classOf, wantOf, lastOf, optionsTable, numbersTable, chainsTable, classesTable};
-ghost use Rattle.sheet.specs.Links.{at, linksAt, LinksIn, LinkedIn, Counted, onceIn, alongIn, chainIn, depthIn, shapeIn, Decoded};
+ghost use Rattle.sheet.specs.Codes.{classOf, wantOf, optionsTable, numbersTable, chainsTable, classesTable};
+ghost use Rattle.sheet.specs.Links.{at, linksAt, LinksIn, LinkedIn, onceIn, alongIn, chainIn, depthIn, shapeIn, Decoded};
 
 // 1
 pub fn length_ok(sheet: &[u8]) -> bool
@@ -30,65 +31,100 @@ pub fn header_ok(sheet: &[u8]) -> bool
     (8000 <= rate) & (rate <= 192000) & (crate::half(sheet, 2) == 0)
 }
 
-// k where number k - 1 of the record is set, and else t.
-fn last_set(r: &[u8], k: usize, t: u8) -> u8
-    requires { ⌜ (40 ≤ length (now r)) × (1 ≤ k) × (k ≤ 8) ⌝ }
-    ensures { λ x. ⌜ x ≡ cond (eqb (bitsOf (now (r .entry)) (k - 1)) 0) t k ⌝ }
+// Numbers k and k + 1 of the record as one word.
+fn pair(r: &[u8], k: usize) -> u64
+    requires { ⌜ (40 ≤ length (now r)) × (k ≤ 6) ⌝ }
+    ensures { λ x. ⌜ x ≡ u64At (now (r .entry)) (8 + 4 * k) ⌝ }
 {
-    if crate::bits(r, k - 1) == 0 {
-        t
-    } else {
-        k as u8
+    crate::double(r, 8 + 4 * k)
+}
+
+// The last place with a number after it, where k is past that.
+fn within(k: usize) -> usize
+    ensures { λ r. ⌜ r ≡ min k 6 ⌝ }
+{
+    if k < 6 { k } else { 6 }
+}
+
+// Whether the numbers from m on are zero, two at a time: words that overlap cost less than a branch on how many there are.
+// Joined by |, and not compared one by one, each is one load.
+fn unset(r: &[u8], m: u8) -> bool
+    requires { ⌜ (40 ≤ length (now r)) × (m ≤ 7) ⌝ }
+    ensures { λ x. ⌜ x ≡ all (λ k. eqb (byteAt (now (r .entry)) (8 + 4 * m + k)) 0) (32 - 4 * m) ⌝ }
+{
+    if 6 < m {
+        return crate::bits(r, 7) == 0;
     }
+    let k = m as usize;
+    (pair(r, k) | pair(r, within(k + 2)) | pair(r, within(k + 4)) | pair(r, 6)) == 0
 }
 
-// Whether the numbers from the third on are all zero, two at a time.
-fn rest_unset(r: &[u8]) -> bool
-    requires { ⌜ 40 ≤ length (now r) ⌝ }
-    ensures { λ x. ⌜ (x ≡ true → (bitsOf (now (r .entry)) 2 ≡ 0) × (bitsOf (now (r .entry)) 3 ≡ 0) × (bitsOf (now (r .entry)) 4 ≡ 0) × (bitsOf (now (r .entry)) 5 ≡ 0) × (bitsOf (now (r .entry)) 6 ≡ 0) × (bitsOf (now (r .entry)) 7 ≡ 0)) ⌝ }
-{
-    (crate::double(r, 16) == 0) & (crate::double(r, 24) == 0) & (crate::double(r, 32) == 0)
-}
-
-// The place after the record's last number that is set. Few kinds use more than two numbers, and a number is read as one
-// word: a loop over the numbers past those that the kind uses costs twice as much.
-fn last(r: &[u8]) -> u8
-    requires { ⌜ 40 ≤ length (now r) ⌝ }
-    ensures { λ x. ⌜ x ≡ lastOf (bitsOf (now (r .entry))) 8 ⌝ }
-{
-    let t = last_set(r, 2, last_set(r, 1, 0));
-    if rest_unset(r) {
-        return t;
-    }
-    let u = last_set(r, 5, last_set(r, 4, last_set(r, 3, t)));
-    last_set(r, 8, last_set(r, 7, last_set(r, 6, u)))
-}
-
-// 3, of one record
+// 3, of one record. The test of the kind serves both tables.
 fn record_ok(r: &[u8], options: &[u8; 53], numbers: &[u8; 53]) -> bool
     requires { ⌜ (40 ≤ length (now r)) × (now options ≡ optionsTable) × (now numbers ≡ numbersTable) ⌝ }
     ensures { λ x. ⌜ x ≡ recordOk (now (r .entry)) ⌝ }
 {
     let k = crate::kind(r);
-    (crate::option(r) < crate::kinds::options(options, k))
-        & (crate::half(r, 6) == 0)
-        & (last(r) <= crate::kinds::numbers(numbers, k))
+    if 52 < k {
+        return false;
+    }
+    if crate::kinds::options(options, k) <= crate::option(r) {
+        return false;
+    }
+    if crate::half(r, 6) != 0 {
+        return false;
+    }
+    unset(r, crate::kinds::numbers(numbers, k))
 }
 
-// 4, of one link of record i, and of its two
+// 4, of one link of record i, and of its two. Some record is there, so that a link of 0 is below n too.
 fn link_ok(i: usize, l: usize, n: usize) -> bool
+    requires { ⌜ 1 ≤ n ⌝ }
     ensures { λ r. ⌜ r ≡ linkOk i l n ⌝ }
 {
-    (l == 0) | ((i < l) & (l < n))
+    ((l == 0) | (i < l)) & (l < n)
 }
 
 fn links_ok(n: usize, i: usize, l: usize, m: usize) -> bool
+    requires { ⌜ 1 ≤ n ⌝ }
     ensures { λ r. ⌜ r ≡ linksAt n i l m ⌝ }
 {
     link_ok(i, l, n) & link_ok(i, m, n) & ((0 < i) | (m == 0))
 }
 
-// 3 and 4: fills the tables on the way.
+// 3 and 4: fills the tables on the way, and stops at a fault. A sheet that has none takes half the steps of `records_ok`.
+fn passes(
+    sheet: &[u8],
+    n: usize,
+    options: &[u8; 53],
+    numbers: &[u8; 53],
+    kinds: &mut [u8],
+    first: &mut [usize],
+    next: &mut [usize],
+) -> bool
+    requires { ⌜ (n ≡ countOf (now sheet)) × (n ≤ 256) × (length (now sheet) ≡ 24 + 40 * n) ⌝ }
+    requires { ⌜ (n ≤ length (now kinds)) × (n ≤ length (now first)) × (n ≤ length (now next)) ⌝ }
+    requires { ⌜ (now options ≡ optionsTable) × (now numbers ≡ numbersTable) ⌝ }
+    ensures { λ r. ⌜ (r ≡ true → Decoded (now (sheet .entry)) (now (kinds .exit)) (now (first .exit)) (now (next .exit)) 0) ⌝ }
+{
+    let mut i = 0usize;
+    while i < n {
+        let r = &sheet[24 + 40 * i..];
+        let f = crate::first(r);
+        let x = crate::next(r);
+        if record_ok(r, options, numbers) & links_ok(n, i, f, x) {
+            kinds[i] = crate::kind(r);
+            first[i] = f;
+            next[i] = x;
+            i += 1;
+        } else {
+            return false;
+        }
+    }
+    true
+}
+
+// The same past a fault, to tell which of the two comes first.
 fn records_ok(
     sheet: &[u8],
     n: usize,
@@ -137,47 +173,34 @@ pub fn decode(
 {
     let options = crate::kinds::OPTIONS;
     let numbers = crate::kinds::NUMBERS;
+    if passes(sheet, n, &options, &numbers, kinds, first, next) {
+        return 0;
+    }
     records_ok(sheet, n, &options, &numbers, kinds, first, next)
 }
 
-// How many links lead to each record; a link of 0 counts at 0.
-fn count_links(first: &[usize], next: &[usize], hits: &mut [u16])
-    requires { ⌜ LinksIn (now first) (now next) ⌝ }
-    requires { ⌜ (1 ≤ length (now first)) × (length (now first) ≤ 256) ⌝ }
-    requires { ⌜ (length (now first) ≤ length (now hits)) × ((j : ℕ) → at (now hits) j ≡ 0) ⌝ }
-    ensures { λ _. ⌜ Counted (at (now (first .entry))) (at (now (next .entry))) (length (now (first .entry))) (now (hits .exit)) (length (now (first .entry))) ⌝ }
-{
-    let mut i = 0usize;
-    while i < first.len() {
-        let f = first[i];
-        hits[f] = hits[f] + 1;
-        let x = next[i];
-        hits[x] = hits[x] + 1;
-        i += 1;
-    }
-}
-
-fn all_once(hits: &[u16], n: usize) -> bool
-    requires { ⌜ n ≤ length (now hits) ⌝ }
-    ensures { λ r. ⌜ r ≡ all (λ j. eqb j 0 || eqb (at (now (hits .entry)) j) 1) n ⌝ }
-{
-    let mut ok = true;
-    let mut j = 0usize;
-    while j < n {
-        ok = ok & ((j == 0) | (hits[j] == 1));
-        j += 1;
-    }
-    ok
-}
-
+// Counts in `hits` how many links lead to each record; a link of 0 counts at 0. Links lead up, so that a record's count is
+// whole at its turn. Record 0 has no next.
 fn once_in(first: &[usize], next: &[usize], hits: &mut [u16]) -> bool
     requires { ⌜ LinksIn (now first) (now next) ⌝ }
     requires { ⌜ (1 ≤ length (now first)) × (length (now first) ≤ 256) ⌝ }
     requires { ⌜ (length (now first) ≤ length (now hits)) × ((j : ℕ) → at (now hits) j ≡ 0) ⌝ }
     ensures { λ r. ⌜ r ≡ onceIn (now (first .entry)) (now (next .entry)) ⌝ }
 {
-    count_links(first, next, hits);
-    all_once(hits, first.len())
+    let root = first[0];
+    hits[root] = 1;
+    let mut i = 1usize;
+    while i < first.len() {
+        if hits[i] != 1 {
+            return false;
+        }
+        let f = first[i];
+        hits[f] = hits[f] + 1;
+        let x = next[i];
+        hits[x] = hits[x] + 1;
+        i += 1;
+    }
+    true
 }
 
 // Of at most 32 records, so that fewer counts are zeroed.
@@ -203,7 +226,7 @@ fn once(first: &[usize], next: &[usize]) -> bool
     once_in(first, next, &mut hits)
 }
 
-// The chain of a record: whether each member is of a class, and how many there are.
+// The chain of a record: whether each member is of a class, and how many there are where each is.
 pub struct Tally {
     pub all: bool,
     pub count: usize,
@@ -221,17 +244,18 @@ fn members(
     requires { ⌜ LinkedIn (now kinds) (now first) (now next) ⌝ }
     requires { ⌜ i < length (now first) ⌝ }
     ensures { λ r. ⌜ r .all ≡ every (λ k. eqb (classOf k) class) (alongIn (now (kinds .entry)) (now (first .entry)) (now (next .entry)) i) ⌝ }
-    ensures { λ r. ⌜ r .count ≡ length (alongIn (now (kinds .entry)) (now (first .entry)) (now (next .entry)) i) ⌝ }
+    ensures { λ r. ⌜ (r .all ≡ true → r .count ≡ length (alongIn (now (kinds .entry)) (now (first .entry)) (now (next .entry)) i)) ⌝ }
 {
-    let mut all = true;
     let mut count = 0usize;
     let mut j = first[i];
     while j != 0 {
-        all = all & (crate::kinds::class(classes, kinds[j]) == class);
+        if crate::kinds::class(classes, kinds[j]) != class {
+            return Tally { all: false, count };
+        }
         count += 1;
         j = next[j];
     }
-    Tally { all, count }
+    Tally { all: true, count }
 }
 
 // What the members of a chain are, by its code.
@@ -241,7 +265,8 @@ fn wanted(c: u8) -> u8
     if c < 2 { 2 } else { c }
 }
 
-// 6, of the chain of record i. The codes 0 to 2 are the number of values, and from 3 on the number is free.
+// 6, of the chain of record i. The codes 0 to 2 are the number of values, and from 3 on the number is free. Half of all
+// records have no chain.
 fn chain_ok(
     chains: &[u8; 53],
     classes: &[u8; 53],
@@ -256,6 +281,9 @@ fn chain_ok(
     ensures { λ r. ⌜ r ≡ chainIn (now (kinds .entry)) (now (first .entry)) (now (next .entry)) i ⌝ }
 {
     let c = crate::kinds::chain(chains, kinds[i]);
+    if first[i] == 0 {
+        return (c == 0) | (2 < c);
+    }
     let m = members(classes, kinds, first, next, i, wanted(c));
     m.all & ((2 < c) | (m.count == c as usize))
 }
@@ -271,13 +299,15 @@ fn all_chains(
     requires { ⌜ LinkedIn (now kinds) (now first) (now next) ⌝ }
     ensures { λ r. ⌜ r ≡ all (chainIn (now (kinds .entry)) (now (first .entry)) (now (next .entry))) (length (now (first .entry))) ⌝ }
 {
-    let mut ok = true;
     let mut i = 0usize;
     while i < first.len() {
-        ok = ok & chain_ok(chains, classes, kinds, first, next, i);
-        i += 1;
+        if chain_ok(chains, classes, kinds, first, next, i) {
+            i += 1;
+        } else {
+            return false;
+        }
     }
-    ok
+    true
 }
 
 fn chains_ok(kinds: &[u8], first: &[usize], next: &[usize]) -> bool

@@ -241,7 +241,7 @@ pub fn options(table: &[u8; 53], k: u8) -> u8
 
 pub fn numbers(table: &[u8; 53], k: u8) -> u8
     requires { ⌜ now table ≡ numbersTable ⌝ }
-    ensures { λ r. ⌜ (r ≡ rowOf k .numbers) × (r ≤ 8) ⌝ }
+    ensures { λ r. ⌜ (r ≡ rowOf k .numbers) × (r ≤ 7) ⌝ }
 {
     let i = k as usize;
     if i < 53 { table[i] } else { 0 }

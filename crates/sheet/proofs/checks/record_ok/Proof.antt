@@ -1,86 +1,68 @@
--- `sheet::checks::record_ok` meets its contract: four bytes are zero where their number is, and those past m are where the last that is not zero stands below m. Assumes nothing.
-use mathlib.Core.Path.{_≡_, ap, _∙_}
-use mathlib.Core.Bool.{true}
+-- `sheet::checks::record_ok` meets its contract: a number past the table is no kind's, and has no option. Assumes nothing.
+use mathlib.Core.Path.{_≡_, sym, _∙_}
+use mathlib.Core.Bool.{false}
 use mathlib.Core.List.{List}
-use Prim.Native.Nat.{ℕ, zero, suc, _+_, _-_, _*_, _/_, _%_, _≤_, _<_}
+use mathlib.Core.Logic.{_≢_}
+use Prim.Native.Nat.{ℕ, _+_, _-_, _*_, _≤_, _<_}
 use native.Mathlib.Omega.{arith}
-use native.Mathlib.Nat.{add-zero}
-use native.Mathlib.Decide.{ℕ-discrete, decLt}
-use lib.Dec.{eqb, leb}
+use lib.Dec.{eqb, ltb}
 use borrow.Author.Needs.{needs}
-use borrow.Author.Tests.{eqb-true, eq-eqb, ne-eqb, leb-true, le-leb}
-use Rattle.sheet.specs.Bytes.{byteAt}
-use Rattle.sheet.specs.Record.{bitsOf}
-use Rattle.sheet.specs.Codes.{lastOf}
+use borrow.Author.Tests.{lt-ltb, le-ltb, eq-eqb, ne-eqb}
+use Rattle.sheet.specs.Bytes.{byteAt, u16At}
+use Rattle.sheet.specs.Record.{kindOf, optionOf}
+use Rattle.sheet.specs.Kinds.{rowOf}
+use Rattle.sheet.specs.Codes.{optionsTable}
 use Rattle.sheet.specs.Checks.{all, recordOk}
-use Rattle.sheet.specs.Laws.{same, all-at, all-of}
+use Rattle.sheet.specs.Laws.{and-false}
+use Rattle.sheet.specs.Table.{past, entry}
 use Rattle.sheet.proofs.checks.record_ok.Statement.{statement}
 use Rattle.sheet.proofs.checks.record_ok.Tie as tie
 
-bytes : (r : List ℕ) (w : ℕ) → bitsOf r w ≡ 0 → (t : ℕ) → t < 4 → byteAt r (8 + 4 * w + t) ≡ 0
-bytes r w e zero h = rw add-zero (omega arith)
-bytes r w e (suc zero) h = omega arith
-bytes r w e (suc (suc zero)) h = omega arith
-bytes r w e (suc (suc (suc zero))) h = ap (byteAt r) (omega arith) ∙ third
-  where
-    third : byteAt r (8 + 4 * w + 2 + 1) ≡ 0
-    third = omega arith
-bytes r w e (suc (suc (suc (suc t)))) h = let x : ⊥ = omega arith in absurd x
+module _ (r : List ℕ) where
+  no-option : rowOf (kindOf r) .options ≤ optionOf r → false ≡ recordOk r
+  unfolding recordOk
+  no-option h = rw (le-ltb (optionOf r) (rowOf (kindOf r) .options) h)
 
--- the last number that is not zero stands below m where all from m on are zero
-last-there : (f : ℕ → ℕ) (n m : ℕ) → lastOf f n ≤ m → (k : ℕ) → m ≤ k → k < n → f k ≡ 0
-unfolding lastOf
-last-there f zero m h k g l = let x : ⊥ = omega arith in absurd x
-last-there f (suc n) m h k g l = elim (ℕ-discrete (f n) 0) [
-  | yes z ↦ elim (ℕ-discrete k n) [ yes q ↦ ap f q ∙ z | no d ↦ last-there f n m (rw (eq-eqb (f n) 0 z) at h) k g (omega arith) ]
-  | no z ↦ let y : suc n ≤ m = rw (ne-eqb (f n) 0 z) at h in let x : ⊥ = omega arith in absurd x
-]
+  no-kind : 52 < kindOf r → false ≡ recordOk r
+  no-kind h = no-option (omega (arith, sym (entry (kindOf r) .options-is) ∙ past optionsTable (kindOf r) (omega arith) (omega arith)))
 
-last-back : (f : ℕ → ℕ) (n m : ℕ) → ((k : ℕ) → m ≤ k → k < n → f k ≡ 0) → lastOf f n ≤ m
-unfolding lastOf
-last-back f zero m h = omega arith
-last-back f (suc n) m h = elim (ℕ-discrete (f n) 0) [
-  | yes z ↦ rw (eq-eqb (f n) 0 z) (last-back f n m (λ k g l. h k g (omega arith)))
-  | no z ↦ rw (ne-eqb (f n) 0 z) (elim (decLt n m) [ yes l ↦ l | no l ↦ absurd (z (h n (omega arith) (omega arith))) ])
-]
+  no-zero : u16At r 6 ≢ 0 → false ≡ recordOk r
+  unfolding recordOk
+  no-zero h = rw (ne-eqb (u16At r 6) 0 h, and-false (ltb (optionOf r) (rowOf (kindOf r) .options)))
 
-module _ (r : List ℕ) (m : ℕ) (few : m ≤ 8) where
-  there : leb (lastOf (bitsOf r) 8) m ≡ true → all (λ k. eqb (byteAt r (8 + 4 * m + k)) 0) (32 - 4 * m) ≡ true
-  there e = all-of _ (32 - 4 * m) (λ k h. eq-eqb _ 0 (byte k h))
-    where
-      byte : (k : ℕ) → k < 32 - 4 * m → byteAt r (8 + 4 * m + k) ≡ 0
-      byte k h =
-          let w = (4 * m + k) / 4 in
-          let z : bitsOf r w ≡ 0 = last-there (bitsOf r) 8 m (leb-true _ m e) w (omega arith) (omega arith) in
-          ap (byteAt r) (omega arith) ∙ bytes r w z ((4 * m + k) % 4) (omega arith)
-
-  back : all (λ k. eqb (byteAt r (8 + 4 * m + k)) 0) (32 - 4 * m) ≡ true → leb (lastOf (bitsOf r) 8) m ≡ true
-  back e = le-leb (lastOf (bitsOf r) 8) m (last-back (bitsOf r) 8 m number)
-    where
-      byte : (j : ℕ) → 8 + 4 * m ≤ j → j < 40 → byteAt r j ≡ 0
-      byte j h g = ap (byteAt r) (omega arith) ∙ eqb-true (byteAt r (8 + 4 * m + (j - (8 + 4 * m)))) 0 (all-at _ _ e (j - (8 + 4 * m)) (omega arith))
-
-      number : (k : ℕ) → m ≤ k → k < 8 → bitsOf r k ≡ 0
-      number k h g = omega (arith, byte (8 + 4 * k) (omega arith) (omega arith), byte (8 + 4 * k + 1) (omega arith) (omega arith), byte (8 + 4 * k + 2) (omega arith) (omega arith), byte (8 + 4 * k + 2 + 1) (omega arith) (omega arith))
-
-  clear : leb (lastOf (bitsOf r) 8) m ≡ all (λ k. eqb (byteAt r (8 + 4 * m + k)) 0) (32 - 4 * m)
-  clear = same _ _ there back
+  by-numbers : optionOf r < rowOf (kindOf r) .options → u16At r 6 ≡ 0 → all (λ k. eqb (byteAt r (8 + 4 * rowOf (kindOf r) .numbers + k)) 0) (32 - 4 * rowOf (kindOf r) .numbers) ≡ recordOk r
+  unfolding recordOk
+  by-numbers h z = rw (lt-ltb (optionOf r) (rowOf (kindOf r) .options) h, eq-eqb (u16At r 6) 0 z)
 
 returns : tie.Need-returns
-unfolding recordOk
-returns c =
-    let k = c .before .before .before .before .before .kind .ensures in
-    let n = c .numbers .ensures in
-    rw (c .before .before .before .before .option .ensures, c .before .before .before .options .ensures, c .before .before .half .ensures .0, c .before .last .ensures, clear _ _ (n .1), n .0, k)
+returns c = no-kind _ (omega (arith, c .before .kind .ensures))
+
+returns-2 : tie.Need-returns-2
+returns-2 c =
+    let o = rw (c .before .before .before .before .kind .ensures) at (c .before .before .options .ensures) in
+    no-option _ (omega (arith, o, c .before .option .ensures))
+
+returns-3 : tie.Need-returns-3
+returns-3 c = no-zero _ (λ e. c .if3 .taken (c .before .half .ensures .0 ∙ e))
+
+returns-4 : tie.Need-returns-4
+returns-4 c =
+    let k = c .before .before .before .before .before .before .before .before .kind .ensures in
+    let o = rw k at (c .before .before .before .before .before .before .options .ensures) in
+    rw (c .unset .ensures, c .before .numbers .ensures .0, k)
+    (by-numbers _ (omega (arith, o, c .before .before .before .before .before .option .ensures)) (sym (c .before .before .before .half .ensures .0) ∙ c .before .before .if3 .left))
 
 pub record-ok-spec : {M : Type 1} → statement M
 record-ok-spec =
     tie.close
     (tie.spec
     (λ c κs. search needs)
+    returns
     (λ c κs. search needs)
     (λ c κs. search needs)
+    returns-2
+    (λ c κs. search needs)
+    returns-3
     (λ c κs. search needs)
     (λ c κs. search needs)
-    (λ c κs. search needs)
-    returns)
+    returns-4)
