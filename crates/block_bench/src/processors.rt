@@ -1,4 +1,4 @@
-// The processors of `proc_block` and `line_block`, and those of `bank_block`.
+// The processors of `proc_block` and `line_block`, and those of `bank_block`. buf is lent to those that play in passes.
 ghost use mathlib.Core.Path.{_≡_};
 ghost use Prim.Native.Nat.{_+_, _*_, _^_, _≤_, _<_};
 ghost use lib.ListN.{length};
@@ -90,8 +90,14 @@ pub extern "C" fn block_filter(
 }
 
 #[no_mangle]
-pub extern "C" fn block_drive(out: &mut [f32], amount: &[f32], cells: &mut [f32], shape: u8)
-    requires { ⌜ (length (now out) ≤ length (now amount)) × (4 ≤ length (now cells)) ⌝ }
+pub extern "C" fn block_drive(
+    out: &mut [f32],
+    amount: &[f32],
+    cells: &mut [f32],
+    buf: &mut [f32],
+    shape: u8,
+)
+    requires { ⌜ (length (now out) ≤ length (now amount)) × (4 ≤ length (now cells)) × (length (now out) ≤ length (now buf)) ⌝ }
     ensures { λ v. ⌜ now (out .exit) ≡ given (driveStepAt (now (out .entry)) (now (amount .entry)) (driveShapeOf shape)) (driveAt (now (cells .entry))) (length (now (out .entry))) ⌝ }
 {
     let s = proc::Drive {
@@ -100,7 +106,7 @@ pub extern "C" fn block_drive(out: &mut [f32], amount: &[f32], cells: &mut [f32]
         dc_x: cells[2],
         dc_y: cells[3],
     };
-    let r = proc_block::drive_block(out, amount, dsl::drive_shape_of(shape), s);
+    let r = proc_block::drive_block(out, buf, amount, dsl::drive_shape_of(shape), s);
     crate::cells::store4(cells, 0, r.x_prev, r.f_prev, r.dc_x, r.dc_y);
 }
 
@@ -113,21 +119,35 @@ pub extern "C" fn block_drive_plain(out: &mut [f32], amount: &[f32], shape: u8)
 }
 
 #[no_mangle]
-pub extern "C" fn block_tremolo(out: &mut [f32], rate: f32, depth: f32, srf: f32, t: u64)
-    requires { ⌜ (t + length (now out) < 2 ^ 64) ⌝ }
+pub extern "C" fn block_tremolo(
+    out: &mut [f32],
+    buf: &mut [f32],
+    rate: f32,
+    depth: f32,
+    srf: f32,
+    t: u64,
+)
+    requires { ⌜ (t + length (now out) < 2 ^ 64) × (length (now out) ≤ length (now buf)) ⌝ }
     ensures { λ v. ⌜ now (out .exit) ≡ given (tremoloStep (now (out .entry)) rate depth srf t) tt (length (now (out .entry))) ⌝ }
 {
-    proc_block::tremolo_block(out, rate, depth, srf, t);
+    proc_block::tremolo_block(out, buf, rate, depth, srf, t);
 }
 
 // The cells are env, at, rt and makeup.
 #[no_mangle]
-pub extern "C" fn block_compress(out: &mut [f32], cells: &mut [f32], threshold: f32, ratio: f32)
-    requires { ⌜ 4 ≤ length (now cells) ⌝ }
+pub extern "C" fn block_compress(
+    out: &mut [f32],
+    cells: &mut [f32],
+    buf: &mut [f32],
+    threshold: f32,
+    ratio: f32,
+)
+    requires { ⌜ (4 ≤ length (now cells)) × (length (now out) ≤ length (now buf)) ⌝ }
     ensures { λ v. ⌜ now (out .exit) ≡ given (compressStep (now (out .entry)) (at (now (cells .entry)) 1) (at (now (cells .entry)) 2) threshold ratio (at (now (cells .entry)) 3)) (at (now (cells .entry)) 0) (length (now (out .entry))) ⌝ }
 {
     cells[0] = proc_block::compress_block(
         out,
+        buf,
         cells[1],
         cells[2],
         threshold,
@@ -150,6 +170,7 @@ pub extern "C" fn block_chorus(
     out: &mut [f32],
     line: &mut [f32],
     words: &mut [u64],
+    buf: &mut [f32],
     base: f32,
     swing: f32,
     rate: f32,
@@ -157,10 +178,10 @@ pub extern "C" fn block_chorus(
     mix: f32,
     t: u64,
 )
-    requires { ⌜ (t + length (now out) < 2 ^ 64) × (1 ≤ length (now words)) × (wordAt (now words) < length (now line)) ⌝ }
+    requires { ⌜ (t + length (now out) < 2 ^ 64) × (1 ≤ length (now words)) × (wordAt (now words) < length (now line)) × (length (now out) ≤ length (now buf)) ⌝ }
     ensures { λ v. ⌜ now (out .exit) ≡ given (chorusStep (now (out .entry)) base swing rate srf mix (length (now (line .entry))) t) (now (line .entry), wordAt (now (words .entry))) (length (now (out .entry))) ⌝ }
 {
-    words[0] = line_block::chorus_block(out, line, base, swing, rate, srf, mix, t, words[0]);
+    words[0] = line_block::chorus_block(out, buf, line, base, swing, rate, srf, mix, t, words[0]);
 }
 
 // The cells are n modes of five each.

@@ -97,19 +97,29 @@ unfoldable pub drivePlain : DriveShape → Float → Float → Float
 drivePlain shape amount x = driveOf shape (driven amount x)
 
 -- ---- Tremolo and Chorus: a sine of the position
+abbrev pub lfoAngle : Float → Float → ℕ → Float
+lfoAngle rate srf t = tau ⊗ rate ⊗ ofInt binary32 (pos t) ⊘ srf
+
 abbrev pub lfoAt : Float → Float → ℕ → Float
-lfoAt rate srf t = sine (tau ⊗ rate ⊗ ofInt binary32 (pos t) ⊘ srf)
+lfoAt rate srf t = sine (lfoAngle rate srf t)
+
+-- y is the sine
+abbrev pub tremoloBy : Float → Float → Float → Float
+tremoloBy depth y x = x ⊗ (one ⊖ depth ⊗ (half ⊕ half ⊗ y))
 
 unfoldable pub tremoloOf : Float → Float → Float → ℕ → Float → Float
-tremoloOf rate depth srf t x = x ⊗ (one ⊖ depth ⊗ (half ⊕ half ⊗ lfoAt rate srf t))
+tremoloOf rate depth srf t x = tremoloBy depth (lfoAt rate srf t) x
 
 -- where Chorus reads: between two places of a line of len, the delay behind place w. A remainder that rounds up to len reads at 0.
-unfoldable pub chorusRead : Float → Float → Float → Float → ℕ → ℕ → ℕ → ChorusRead
-chorusRead base swing rate srf len w t =
-    let delay = base ⊕ swing ⊗ lfoAt rate srf t in
+unfoldable pub chorusPlace : Float → Float → Float → ℕ → ℕ → ChorusRead
+chorusPlace base swing y len w =
+    let delay = base ⊕ swing ⊗ y in
     let read = remEuclidOf binary32 (ofInt binary32 (pos w) ⊖ delay) (ofInt binary32 (pos len)) in
     let i0 = toUnsigned 64 (floorOf binary32 read) % len in
     record { i0 = i0; i1 = (i0 + 1) % len; frac = read ⊖ floorOf binary32 read }
+
+unfoldable pub chorusRead : Float → Float → Float → Float → ℕ → ℕ → ℕ → ChorusRead
+chorusRead base swing rate srf len w t = chorusPlace base swing (lfoAt rate srf t) len w
 
 unfoldable pub chorusOf : Float → Float → Float → Float → Float → Float
 chorusOf mix frac x a b = blend mix x (a ⊗ (one ⊖ frac) ⊕ b ⊗ frac)

@@ -1,7 +1,7 @@
 // The processors for one sample: values in, a struct of the sample and the new state out.
 ghost use mathlib.Core.Path.{_≡_};
-ghost use Prim.Native.Nat.{_<_};
-ghost use Rattle.proc.specs.Effects.{gainOf, tuned, biquadStep, filterOf, delayOf, nextPlace, combOf, allpassOf, reverbMix, modeOf, driven, driveBy, driveStep, drivePlain, lfoAt, tremoloOf, chorusRead, chorusOf, compressLevel, compressGain, compressOf};
+ghost use Prim.Native.Nat.{_%_, _<_};
+ghost use Rattle.proc.specs.Effects.{gainOf, tuned, biquadStep, filterOf, delayOf, nextPlace, combOf, allpassOf, reverbMix, modeOf, driven, driveBy, driveStep, drivePlain, lfoAngle, lfoAt, tremoloBy, tremoloOf, chorusPlace, chorusRead, chorusOf, compressLevel, compressGain, compressOf};
 
 // A filter's eleven cells, in the sheet's order.
 pub struct Filter {
@@ -239,19 +239,55 @@ pub fn drive_plain(shape: dsl::DriveShape, amount: f32, x: f32) -> f32
     render::drive_curve(amplified(amount, x), shape)
 }
 
+// The angle of the LFO at a position; its sine is `dsp::sin`, by a block in a loop of its own.
+pub fn lfo_angle(rate: f32, srf: f32, t: u64) -> f32
+    ensures { λ r. ⌜ r ≡ lfoAngle rate srf t ⌝ }
+{
+    6.2831855 * rate * cast::u64_to_f32(t) / srf
+}
+
 fn lfo_at(rate: f32, srf: f32, t: u64) -> f32
     ensures { λ r. ⌜ r ≡ lfoAt rate srf t ⌝ }
 {
-    dsp::sin(6.2831855 * rate * cast::u64_to_f32(t) / srf)
+    dsp::sin(lfo_angle(rate, srf, t))
+}
+
+pub fn tremolo_by(depth: f32, sine: f32, x: f32) -> f32
+    ensures { λ r. ⌜ r ≡ tremoloBy depth sine x ⌝ }
+{
+    x * (1.0 - depth * (0.5 + 0.5 * sine))
 }
 
 pub fn tremolo(rate: f32, depth: f32, srf: f32, t: u64, x: f32) -> f32
     ensures { λ r. ⌜ r ≡ tremoloOf rate depth srf t x ⌝ }
 {
-    x * (1.0 - depth * (0.5 + 0.5 * lfo_at(rate, srf, t)))
+    tremolo_by(depth, lfo_at(rate, srf, t), x)
+}
+
+// i % len, without a division where i is below len already.
+fn within(i: u64, len: u64) -> u64
+    requires { ⌜ 0 < len ⌝ }
+    ensures { λ r. ⌜ (r ≡ i % len) × (r < len) ⌝ }
+{
+    if i < len { i } else { i % len }
 }
 
 // A remainder that rounds up to the line's length is taken at 0 by the last remainder.
+pub fn chorus_place(base: f32, swing: f32, sine: f32, len: u64, w: u64) -> ChorusRead
+    requires { ⌜ 0 < len ⌝ }
+    ensures { λ r. ⌜ (r ≡ chorusPlace base swing sine len w) × (r .i0 < len) × (r .i1 < len) ⌝ }
+{
+    let delay = base + swing * sine;
+    let read = float::rem_euclid(cast::u64_to_f32(w) - delay, cast::u64_to_f32(len));
+    let whole = float::floor(read);
+    let i0 = within(cast::f32_to_u64(whole), len);
+    ChorusRead {
+        i0,
+        i1: next_place(i0, len),
+        frac: read - whole,
+    }
+}
+
 pub fn chorus_read(
     base: f32,
     swing: f32,
@@ -264,15 +300,7 @@ pub fn chorus_read(
     requires { ⌜ 0 < len ⌝ }
     ensures { λ r. ⌜ (r ≡ chorusRead base swing rate srf len w t) × (r .i0 < len) × (r .i1 < len) ⌝ }
 {
-    let delay = base + swing * lfo_at(rate, srf, t);
-    let read = float::rem_euclid(cast::u64_to_f32(w) - delay, cast::u64_to_f32(len));
-    let whole = float::floor(read);
-    let i0 = cast::f32_to_u64(whole) % len;
-    ChorusRead {
-        i0,
-        i1: next_place(i0, len),
-        frac: read - whole,
-    }
+    chorus_place(base, swing, lfo_at(rate, srf, t), len, w)
 }
 
 pub fn chorus(mix: f32, frac: f32, x: f32, a: f32, b: f32) -> f32

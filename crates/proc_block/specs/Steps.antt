@@ -4,11 +4,12 @@ use Prim.Native.Nat.{ℕ, _+_}
 use lib.Ieee.{Float}
 use Rattle.block.specs.Iterate.{at}
 use Rattle.dsl.specs.declared.DriveShape.{DriveShape}
+use Rattle.dsp.specs.Math.{sine}
 use Rattle.render.specs.declared.FilterKind.{FilterKind}
 use Rattle.render.specs.Drive.{decayOf, lnCosh}
 use Rattle.proc.specs.declared.Filter.{Filter}
 use Rattle.proc.specs.declared.Drive.{Drive}
-use Rattle.proc.specs.Effects.{gainOf, filterOf, driven, driveBy, driveStep, drivePlain, tremoloOf, compressLevel, compressGain, compressOf}
+use Rattle.proc.specs.Effects.{gainOf, filterOf, driven, driveBy, driveStep, drivePlain, lfoAngle, lfoAt, tremoloBy, tremoloOf, compressLevel, compressGain, compressOf}
 
 unfoldable pub gainStep : List Float → List Float → ℕ → Unit {0} → Float × Unit {0}
 gainStep xs amount k s = (gainOf (at amount k) (at xs k), s)
@@ -35,8 +36,22 @@ driveByStep xs fs shape k s = let r = driveBy shape (at xs k) (at fs k) s in (r 
 unfoldable pub drivePlainStep : List Float → List Float → DriveShape → ℕ → Unit {0} → Float × Unit {0}
 drivePlainStep xs amount shape k s = (drivePlain shape (at amount k) (at xs k), s)
 
+-- the LFO of Tremolo and Chorus from position t on, and its passes: the angles, xs, and their sines
+unfoldable pub lfoStep : Float → Float → ℕ → ℕ → Unit {0} → Float × Unit {0}
+lfoStep rate srf t k s = (lfoAt rate srf (t + k), s)
+
+unfoldable pub angleStep : Float → Float → ℕ → ℕ → Unit {0} → Float × Unit {0}
+angleStep rate srf t k s = (lfoAngle rate srf (t + k), s)
+
+unfoldable pub sineStep : List Float → ℕ → Unit {0} → Float × Unit {0}
+sineStep xs k s = (sine (at xs k), s)
+
 unfoldable pub tremoloStep : List Float → Float → Float → Float → ℕ → ℕ → Unit {0} → Float × Unit {0}
 tremoloStep xs rate depth srf t k s = (tremoloOf rate depth srf (t + k) (at xs k), s)
+
+-- from the sines of the LFO
+unfoldable pub tremoloByStep : List Float → List Float → Float → ℕ → Unit {0} → Float × Unit {0}
+tremoloByStep xs sines depth k s = (tremoloBy depth (at sines k) (at xs k), s)
 
 unfoldable pub compressStep : List Float → Float → Float → Float → Float → Float → ℕ → Float → Float × Float
 compressStep xs attack release threshold ratio makeup k env = let r = compressOf attack release threshold ratio makeup env (at xs k) in (r .out, r .env)

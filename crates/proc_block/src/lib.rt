@@ -1,10 +1,11 @@
 // The processors over a block, in place: what the one-sample kernel gives, sample after sample, with the state in locals.
+// Those that play in passes are lent a buffer, whose numbers before and after have no meaning.
 ghost use mathlib.Core.Path.{_≡_};
 ghost use Prim.Native.Nat.{_+_, _^_, _≤_, _<_};
 ghost use lib.ListN.{length};
 ghost use Rattle.dsl.specs.declared.DriveShape.the-variants.{Tanh};
 ghost use Rattle.block.specs.Iterate.{given, after};
-ghost use Rattle.proc_block.specs.Steps.{gainStep, filterStep, drivenStep, decayStep, lnCoshStep, driveByStep, driveStepAt, drivePlainStep, tremoloStep, compressStep, levelStep, levelGainStep};
+ghost use Rattle.proc_block.specs.Steps.{gainStep, filterStep, drivenStep, decayStep, lnCoshStep, driveByStep, driveStepAt, drivePlainStep, lfoStep, angleStep, sineStep, tremoloStep, tremoloByStep, compressStep, levelStep, levelGainStep};
 
 pub fn gain_block(out: &mut [f32], amount: &[f32])
     requires { ⌜ (length (now out) ≤ length (now amount)) ⌝ }
@@ -107,8 +108,8 @@ fn drive_tanh(out: &mut [f32], fs: &mut [f32], amount: &[f32], s: proc::Drive) -
     drive_averages(out, fs, dsl::DriveShape::Tanh, s)
 }
 
-// A block of any length and shape, in one pass.
-fn drive_long(
+// Any shape, in one pass.
+fn drive_steps(
     out: &mut [f32],
     amount: &[f32],
     shape: dsl::DriveShape,
@@ -130,23 +131,20 @@ fn drive_long(
 
 pub fn drive_block(
     out: &mut [f32],
+    buf: &mut [f32],
     amount: &[f32],
     shape: dsl::DriveShape,
     s: proc::Drive,
 ) -> proc::Drive
-    requires { ⌜ (length (now out) ≤ length (now amount)) ⌝ }
+    requires { ⌜ (length (now out) ≤ length (now amount)) × (length (now out) ≤ length (now buf)) ⌝ }
     ensures { λ v. ⌜ (now (out .exit) ≡ given (driveStepAt (now (out .entry)) (now (amount .entry)) shape) s (length (now (out .entry)))) × (v ≡ after (driveStepAt (now (out .entry)) (now (amount .entry)) shape) s (length (now (out .entry)))) ⌝ }
 {
-    let n = out.len();
-    if n > 256 {
-        return drive_long(out, amount, shape, s);
-    }
     match shape {
         dsl::DriveShape::Tanh => {
-            let mut fs = [0.0f32; 256];
-            drive_tanh(out, &mut fs[..n], amount, s)
+            let n = out.len();
+            drive_tanh(out, &mut buf[..n], amount, s)
         }
-        _ => drive_long(out, amount, shape, s),
+        _ => drive_steps(out, amount, shape, s),
     }
 }
 
@@ -161,15 +159,63 @@ pub fn drive_plain_block(out: &mut [f32], amount: &[f32], shape: dsl::DriveShape
     }
 }
 
-pub fn tremolo_block(out: &mut [f32], rate: f32, depth: f32, srf: f32, t: u64)
-    requires { ⌜ (t + length (now out) < 2 ^ 64) ⌝ }
-    ensures { λ v. ⌜ (now (out .exit) ≡ given (tremoloStep (now (out .entry)) rate depth srf t) tt (length (now (out .entry)))) ⌝ }
+// ---- The LFO of Tremolo and Chorus, and Tremolo. A sine is a long chain: in a loop of nothing else, more of them overlap.
+
+fn lfo_angles(buf: &mut [f32], rate: f32, srf: f32, t: u64)
+    requires { ⌜ (t + length (now buf) < 2 ^ 64) ⌝ }
+    ensures { λ v. ⌜ (now (buf .exit) ≡ given (angleStep rate srf t) tt (length (now (buf .entry)))) ⌝ }
+{
+    let mut k: usize = 0;
+    while k < buf.len() {
+        buf[k] = proc::lfo_angle(rate, srf, t + (k as u64));
+        k += 1;
+    }
+}
+
+fn lfo_sines(buf: &mut [f32])
+    ensures { λ v. ⌜ (now (buf .exit) ≡ given (sineStep (now (buf .entry))) tt (length (now (buf .entry)))) ⌝ }
+{
+    let mut k: usize = 0;
+    while k < buf.len() {
+        buf[k] = dsp::sin(buf[k]);
+        k += 1;
+    }
+}
+
+// t is the position of the first sample.
+pub fn lfo_block(buf: &mut [f32], rate: f32, srf: f32, t: u64)
+    requires { ⌜ (t + length (now buf) < 2 ^ 64) ⌝ }
+    ensures { λ v. ⌜ (now (buf .exit) ≡ given (lfoStep rate srf t) tt (length (now (buf .entry)))) ⌝ }
+{
+    lfo_angles(buf, rate, srf, t);
+    lfo_sines(buf);
+}
+
+fn tremolo_products(out: &mut [f32], sines: &[f32], depth: f32)
+    requires { ⌜ (length (now out) ≤ length (now sines)) ⌝ }
+    ensures { λ v. ⌜ (now (out .exit) ≡ given (tremoloByStep (now (out .entry)) (now (sines .entry)) depth) tt (length (now (out .entry)))) ⌝ }
 {
     let mut k: usize = 0;
     while k < out.len() {
-        out[k] = proc::tremolo(rate, depth, srf, t + (k as u64), out[k]);
+        out[k] = proc::tremolo_by(depth, sines[k], out[k]);
         k += 1;
     }
+}
+
+fn tremolo_in(out: &mut [f32], sines: &mut [f32], rate: f32, depth: f32, srf: f32, t: u64)
+    requires { ⌜ (t + length (now out) < 2 ^ 64) × (length (now sines) ≡ length (now out)) ⌝ }
+    ensures { λ v. ⌜ (now (out .exit) ≡ given (tremoloStep (now (out .entry)) rate depth srf t) tt (length (now (out .entry)))) ⌝ }
+{
+    lfo_block(sines, rate, srf, t);
+    tremolo_products(out, sines, depth);
+}
+
+pub fn tremolo_block(out: &mut [f32], buf: &mut [f32], rate: f32, depth: f32, srf: f32, t: u64)
+    requires { ⌜ (t + length (now out) < 2 ^ 64) × (length (now out) ≤ length (now buf)) ⌝ }
+    ensures { λ v. ⌜ (now (out .exit) ≡ given (tremoloStep (now (out .entry)) rate depth srf t) tt (length (now (out .entry)))) ⌝ }
+{
+    let n = out.len();
+    tremolo_in(out, &mut buf[..n], rate, depth, srf, t);
 }
 
 // ---- Compress, in two passes: a sample's logarithm and its power are a long chain each, and in a loop of its own more of them
@@ -227,32 +273,10 @@ fn compress_by(
     e
 }
 
-// A block of any length, in one pass.
-fn compress_long(
-    out: &mut [f32],
-    at: f32,
-    rt: f32,
-    threshold: f32,
-    ratio: f32,
-    makeup: f32,
-    env: f32,
-) -> f32
-    ensures { λ v. ⌜ (now (out .exit) ≡ given (compressStep (now (out .entry)) at rt threshold ratio makeup) env (length (now (out .entry)))) × (v ≡ after (compressStep (now (out .entry)) at rt threshold ratio makeup) env (length (now (out .entry)))) ⌝ }
-{
-    let mut p = env;
-    let mut k: usize = 0;
-    while k < out.len() {
-        let r = proc::compress(at, rt, threshold, ratio, makeup, p, out[k]);
-        out[k] = r.out;
-        p = r.env;
-        k += 1;
-    }
-    p
-}
-
 // at, rt and makeup are the cells that the voice was built with.
 pub fn compress_block(
     out: &mut [f32],
+    buf: &mut [f32],
     at: f32,
     rt: f32,
     threshold: f32,
@@ -260,12 +284,9 @@ pub fn compress_block(
     makeup: f32,
     env: f32,
 ) -> f32
+    requires { ⌜ (length (now out) ≤ length (now buf)) ⌝ }
     ensures { λ v. ⌜ (now (out .exit) ≡ given (compressStep (now (out .entry)) at rt threshold ratio makeup) env (length (now (out .entry)))) × (v ≡ after (compressStep (now (out .entry)) at rt threshold ratio makeup) env (length (now (out .entry)))) ⌝ }
 {
     let n = out.len();
-    if n <= 256 {
-        let mut levels = [0.0f32; 256];
-        return compress_by(out, &mut levels[..n], at, rt, threshold, ratio, makeup, env);
-    }
-    compress_long(out, at, rt, threshold, ratio, makeup, env)
+    compress_by(out, &mut buf[..n], at, rt, threshold, ratio, makeup, env)
 }

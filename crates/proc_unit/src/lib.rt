@@ -1,5 +1,5 @@
 // A block of a processor's record, in place: the kernel of its kind on what the record owns. What is constant over the
-// block is read of the record once.
+// block is read of the record once. buf is a buffer for the kernels that play in passes.
 ghost use mathlib.Core.Path.{_≡_};
 ghost use mathlib.Core.Bool.{true};
 ghost use mathlib.Core.List.{List, [], _∷_};
@@ -62,14 +62,14 @@ fn modal(r: &[u8], out: &mut [f32], cells: &mut [f32])
     bank_block::modal_block(out, mix, n, cells);
 }
 
-fn tremolo(r: &[u8], sr: u32, c: control::Controls, out: &mut [f32])
-    requires { ⌜ (40 ≤ length (now r)) × (c .position + length (now out) < 2 ^ 64) ⌝ }
+fn tremolo(r: &[u8], sr: u32, c: control::Controls, out: &mut [f32], buf: &mut [f32])
+    requires { ⌜ (40 ≤ length (now r)) × (c .position + length (now out) < 2 ^ 64) × (length (now out) ≤ length (now buf)) ⌝ }
     ensures { λ v. ⌜ ((cs : List Float) (rs : List ℕ) → Ran (tremoloUnit (numberOf (now (r .entry)) 0) (numberOf (now (r .entry)) 1) (ofInt binary32 (pos sr))) c [] (now (out .entry)) cs rs (now (out .exit)) cs rs) ⌝ }
 {
     let rate = sheet::number(r, 0);
     let depth = sheet::number(r, 1);
     let srf = cast::u32_to_f32(sr);
-    proc_block::tremolo_block(out, rate, depth, srf, c.position);
+    proc_block::tremolo_block(out, buf, rate, depth, srf, c.position);
 }
 
 fn chorus(
@@ -77,10 +77,11 @@ fn chorus(
     sr: u32,
     c: control::Controls,
     out: &mut [f32],
+    buf: &mut [f32],
     cells: &mut [f32],
     regs: &mut [u64],
 )
-    requires { ⌜ (40 ≤ length (now r)) × (length (now regs) ≡ 1) × (word (now regs) 0 < length (now cells)) × (c .position + length (now out) < 2 ^ 64) ⌝ }
+    requires { ⌜ (40 ≤ length (now r)) × (length (now regs) ≡ 1) × (word (now regs) 0 < length (now cells)) × (c .position + length (now out) < 2 ^ 64) × (length (now out) ≤ length (now buf)) ⌝ }
     ensures { λ v. ⌜ Ran (chorusUnit (chorusBase sr) (chorusSwing (numberOf (now (r .entry)) 1) sr) (numberOf (now (r .entry)) 0) (ofInt binary32 (pos sr)) (clampOf (numberOf (now (r .entry)) 2) zero one)) c [] (now (out .entry)) (now (cells .entry)) (now (regs .entry)) (now (out .exit)) (now (cells .exit)) (now (regs .exit)) ⌝ }
 {
     let base = lines::chorus_base(sr);
@@ -89,19 +90,31 @@ fn chorus(
     let srf = cast::u32_to_f32(sr);
     let mix = float::clamp(sheet::number(r, 2), 0.0, 1.0);
     let place = regs[0];
-    let next = line_block::chorus_block(out, cells, base, swing, rate, srf, mix, c.position, place);
+    let next = line_block::chorus_block(
+        out,
+        buf,
+        cells,
+        base,
+        swing,
+        rate,
+        srf,
+        mix,
+        c.position,
+        place,
+    );
     regs[0] = next;
 }
 
 // The cells are env, at, rt and makeup, of which a block moves env.
-fn compress(r: &[u8], out: &mut [f32], cells: &mut [f32])
-    requires { ⌜ (40 ≤ length (now r)) × (length (now cells) ≡ 4) ⌝ }
+fn compress(r: &[u8], out: &mut [f32], buf: &mut [f32], cells: &mut [f32])
+    requires { ⌜ (40 ≤ length (now r)) × (length (now cells) ≡ 4) × (length (now out) ≤ length (now buf)) ⌝ }
     ensures { λ v. ⌜ ((c : Controls) (rs : List ℕ) → Ran (compressUnit (numberOf (now (r .entry)) 0) (maxOf (numberOf (now (r .entry)) 1) one)) c [] (now (out .entry)) (now (cells .entry)) rs (now (out .exit)) (now (cells .exit)) rs) ⌝ }
 {
     let threshold = sheet::number(r, 0);
     let ratio = float::max(sheet::number(r, 1), 1.0);
     let env = proc_block::compress_block(
         out,
+        buf,
         cells[1],
         cells[2],
         threshold,
@@ -119,19 +132,20 @@ fn processor0(
     kind: u8,
     c: control::Controls,
     out: &mut [f32],
+    buf: &mut [f32],
     cells: &mut [f32],
     regs: &mut [u64],
 )
-    requires { ⌜ (40 ≤ length (now r)) × (sr ≤ 192000) × (29 ≤ kind) × (kind ≤ 35) × (kind ≢ 32) × Fits sr kind (now cells) (now regs) × (c .position + length (now out) < 2 ^ 64) ⌝ }
+    requires { ⌜ (40 ≤ length (now r)) × (sr ≤ 192000) × (29 ≤ kind) × (kind ≤ 35) × (kind ≢ 32) × Fits sr kind (now cells) (now regs) × (c .position + length (now out) < 2 ^ 64) × (length (now out) ≤ length (now buf)) ⌝ }
     ensures { λ v. ⌜ Ran (processorUnit (now (r .entry)) sr (length (now (cells .entry)) / 5) kind) c [] (now (out .entry)) (now (cells .entry)) (now (regs .entry)) (now (out .exit)) (now (cells .exit)) (now (regs .exit)) ⌝ }
 {
     match kind {
         29 => delay(r, out, cells, regs),
         30 => reverb(r, sr, out, cells, regs),
         31 => modal(r, out, cells),
-        33 => tremolo(r, sr, c, out),
-        34 => chorus(r, sr, c, out, cells, regs),
-        _ => compress(r, out, cells),
+        33 => tremolo(r, sr, c, out, buf),
+        34 => chorus(r, sr, c, out, buf, cells, regs),
+        _ => compress(r, out, buf, cells),
     }
 }
 
@@ -142,15 +156,16 @@ pub fn play0(
     kind: u8,
     c: control::Controls,
     out: &mut [f32],
+    buf: &mut [f32],
     cells: &mut [f32],
     regs: &mut [u64],
 )
-    requires { ⌜ Lent (now sheet) i kind (length (now cells)) (length (now regs)) × (29 ≤ kind) × (kind ≤ 35) × (kind ≢ 32) × (ownOk (now sheet) i (now cells, now regs) ≡ true) × (c .position + length (now out) < 2 ^ 64) ⌝ }
+    requires { ⌜ Lent (now sheet) i kind (length (now cells)) (length (now regs)) × (29 ≤ kind) × (kind ≤ 35) × (kind ≢ 32) × (ownOk (now sheet) i (now cells, now regs) ≡ true) × (c .position + length (now out) < 2 ^ 64) × (length (now out) ≤ length (now buf)) ⌝ }
     ensures { λ v. ⌜ Ran (kindUnit (now (sheet .entry)) i) c [] (now (out .entry)) (now (cells .entry)) (now (regs .entry)) (now (out .exit)) (now (cells .exit)) (now (regs .exit)) ⌝ }
 {
     let a = 24 + 40 * i;
     let sr = sheet::rate(sheet);
-    processor0(&sheet[a..], sr, kind, c, out, cells, regs);
+    processor0(&sheet[a..], sr, kind, c, out, buf, cells, regs);
 }
 
 // ---- those with a value
@@ -225,28 +240,36 @@ fn store_drive(cells: &mut [f32], s: proc::Drive)
 }
 
 // Options below 3 are anti-aliased.
-fn drive(r: &[u8], out: &mut [f32], v: &[f32], cells: &mut [f32])
-    requires { ⌜ (40 ≤ length (now r)) × (length (now cells) ≡ 4) × (length (now out) ≤ length (now v)) ⌝ }
+fn drive(r: &[u8], out: &mut [f32], v: &[f32], buf: &mut [f32], cells: &mut [f32])
+    requires { ⌜ (40 ≤ length (now r)) × (length (now cells) ≡ 4) × (length (now out) ≤ length (now v)) × (length (now out) ≤ length (now buf)) ⌝ }
     ensures { λ x. ⌜ ((c : Controls) (rs : List ℕ) → Ran (driveUnit (optionOf (now (r .entry)))) c (now (v .entry) ∷ []) (now (out .entry)) (now (cells .entry)) rs (now (out .exit)) (now (cells .exit)) rs) ⌝ }
 {
     let option = sheet::option(r);
     let shape = dsl::drive_shape_of(option);
     if option < 3 {
         let s = load_drive(cells);
-        let t = proc_block::drive_block(out, v, shape, s);
+        let t = proc_block::drive_block(out, buf, v, shape, s);
         store_drive(cells, t);
         return;
     }
     proc_block::drive_plain_block(out, v, shape);
 }
 
-fn processor1(r: &[u8], sr: u32, kind: u8, out: &mut [f32], v: &[f32], cells: &mut [f32])
-    requires { ⌜ (40 ≤ length (now r)) × (21 ≤ kind) × (kind ≤ 32) × (kind ≢ 29) × (kind ≢ 30) × (kind ≢ 31) × FitsValue kind (now cells) × (length (now out) ≤ length (now v)) ⌝ }
+fn processor1(
+    r: &[u8],
+    sr: u32,
+    kind: u8,
+    out: &mut [f32],
+    v: &[f32],
+    buf: &mut [f32],
+    cells: &mut [f32],
+)
+    requires { ⌜ (40 ≤ length (now r)) × (21 ≤ kind) × (kind ≤ 32) × (kind ≢ 29) × (kind ≢ 30) × (kind ≢ 31) × FitsValue kind (now cells) × (length (now out) ≤ length (now v)) × (length (now out) ≤ length (now buf)) ⌝ }
     ensures { λ x. ⌜ ((c : Controls) (m : ℕ) (rs : List ℕ) → Ran (processorUnit (now (r .entry)) sr m kind) c (now (v .entry) ∷ []) (now (out .entry)) (now (cells .entry)) rs (now (out .exit)) (now (cells .exit)) rs) ⌝ }
 {
     match kind {
         21 => proc_block::gain_block(out, v),
-        32 => drive(r, out, v, cells),
+        32 => drive(r, out, v, buf, cells),
         _ => filter(r, sr, kind, out, v, cells),
     }
 }
@@ -259,13 +282,14 @@ pub fn play1(
     c: control::Controls,
     out: &mut [f32],
     v: &[f32],
+    buf: &mut [f32],
     cells: &mut [f32],
     regs: &mut [u64],
 )
-    requires { ⌜ Lent (now sheet) i kind (length (now cells)) (length (now regs)) × (21 ≤ kind) × (kind ≤ 32) × (kind ≢ 29) × (kind ≢ 30) × (kind ≢ 31) × (length (now out) ≤ length (now v)) ⌝ }
+    requires { ⌜ Lent (now sheet) i kind (length (now cells)) (length (now regs)) × (21 ≤ kind) × (kind ≤ 32) × (kind ≢ 29) × (kind ≢ 30) × (kind ≢ 31) × (length (now out) ≤ length (now v)) × (length (now out) ≤ length (now buf)) ⌝ }
     ensures { λ x. ⌜ Ran (kindUnit (now (sheet .entry)) i) c (now (v .entry) ∷ []) (now (out .entry)) (now (cells .entry)) (now (regs .entry)) (now (out .exit)) (now (cells .exit)) (now (regs .exit)) ⌝ }
 {
     let a = 24 + 40 * i;
     let sr = sheet::rate(sheet);
-    processor1(&sheet[a..], sr, kind, out, v, cells);
+    processor1(&sheet[a..], sr, kind, out, v, buf, cells);
 }

@@ -32,9 +32,9 @@ buffersOf zero v w = []
 buffersOf (suc zero) v w = v ∷ []
 buffersOf (suc (suc m)) v w = v ∷ w ∷ []
 
--- kinds that play by a unit of their own: sources, processors, values
+-- kinds of nodes that play by a unit of their own: sources, processors
 abbrev pub hasUnit : ℕ → Bool
-hasUnit k = (leb 1 k && leb k 10) || (leb 21 k && leb k 35) || (leb 41 k && leb k 46)
+hasUnit k = (leb 1 k && leb k 10) || (leb 21 k && leb k 35)
 
 -- ---- as the code works it out
 abbrev pub two : ℕ → Bool
@@ -153,7 +153,7 @@ leaf-most steps e = omega arith
 
 -- ---- kinds with a unit of their own
 pub node-unit : (k : ℕ) → isNode k ≡ true → isFold k ≡ false → k ≢ 13 → hasUnit k ≡ true
-node-unit k e f d = go (leb 1 k) (leb k 13) (leb k 10) (leb 21 k && leb k 35) (leb 41 k && leb k 46) low e
+node-unit k e f d = go (leb 1 k) (leb k 13) (leb k 10) (leb 21 k && leb k 35) low e
   where
     low : leb 1 k ≡ true → leb k 13 ≡ true → leb k 10 ≡ true
     low p q = elim (decLt k 11) [
@@ -166,43 +166,28 @@ node-unit k e f d = go (leb 1 k) (leb k 13) (leb k 10) (leb 21 k && leb k 35) (l
           absurd z
     ]
 
-    go : (a b c x y : Bool) → (a ≡ true → b ≡ true → c ≡ true) → (a && b) || x ≡ true → ((a && c) || x || y) ≡ true
-    go true true c x y h e = rw (h refl refl)
-    go true false c true y h e = rw (or-right (true && c))
-    go true false c false y h e = never (sym e)
-    go false b c true y h e = refl
-    go false b c false y h e = never (sym e)
-
-pub value-unit : (k : ℕ) → isValue k ≡ true → hasUnit k ≡ true
-value-unit k e = rw e (or-right ((leb 1 k && leb k 10) || (leb 21 k && leb k 35)))
+    go : (a b c x : Bool) → (a ≡ true → b ≡ true → c ≡ true) → (a && b) || x ≡ true → (a && c) || x ≡ true
+    go true true c x h e = rw (h refl refl)
+    go true false c true h e = or-right (true && c)
+    go true false c false h e = never (sym e)
+    go false b c true h e = refl
+    go false b c false h e = never (sym e)
 
 -- ---- which kinds have a unit, and how many values each of them has
-group : (k : ℕ) → hasUnit k ≡ true → ((1 ≤ k) × (k ≤ 10)) ⊎ (((21 ≤ k) × (k ≤ 35)) ⊎ ((41 ≤ k) × (k ≤ 46)))
-group k e = go (leb 1 k && leb k 10) (leb 21 k && leb k 35) (leb 41 k && leb k 46) refl refl refl e
+or-two : (a b : Bool) → a || b ≡ true → (a ≡ true) ⊎ (b ≡ true)
+or-two true b e = inl refl
+or-two false b e = inr e
+
+group : (k : ℕ) → hasUnit k ≡ true → ((1 ≤ k) × (k ≤ 10)) ⊎ ((21 ≤ k) × (k ≤ 35))
+group k e = elim (or-two (leb 1 k && leb k 10) (leb 21 k && leb k 35) e) [ inl p ↦ inl (between 1 10 p) | inr p ↦ inr (between 21 35 p) ]
   where
     between : (a b : ℕ) → leb a k && leb k b ≡ true → (a ≤ k) × (k ≤ b)
     between a b q = let r = both (leb a k) (leb k b) q in (leb-true a k (r .0), leb-true k b (r .1))
 
-    go : (a b c : Bool) → leb 1 k && leb k 10 ≡ a → leb 21 k && leb k 35 ≡ b → leb 41 k && leb k 46 ≡ c → a || b || c ≡ true
-        → ((1 ≤ k) × (k ≤ 10)) ⊎ (((21 ≤ k) × (k ≤ 35)) ⊎ ((41 ≤ k) × (k ≤ 46)))
-    go true b c p q r e = inl (between 1 10 p)
-    go false true c p q r e = inr (inl (between 21 35 q))
-    go false false true p q r e = inr (inr (between 41 46 r))
-    go false false false p q r e = never (sym e)
-
-pub high : (k : ℕ) → hasUnit k ≡ true → 41 ≤ k → k ≤ 46
-high k e h = elim (group k e) [ inl p ↦ omega arith | inr q ↦ elim q [ inl p ↦ omega arith | inr p ↦ p .1 ] ]
-
-pub middle : (k : ℕ) → hasUnit k ≡ true → 21 ≤ k → k < 41 → k ≤ 35
-middle k e h l = elim (group k e) [ inl p ↦ omega arith | inr q ↦ elim q [ inl p ↦ p .1 | inr p ↦ omega arith ] ]
-
-pub low : (k : ℕ) → hasUnit k ≡ true → k < 21 → (1 ≤ k) × (k ≤ 10)
-low k e l = elim (group k e) [ inl p ↦ p | inr q ↦ elim q [ inl p ↦ absurd (omega arith) | inr p ↦ absurd (omega arith) ] ]
-
 -- a test of each kind: m values only where the kind is one of these
 fits : ℕ → Bool
 fits k =
-    (not (eqb (valuesOf k) 0) || not (hasUnit k) || leb 41 k || (leb 7 k && leb k 10) || (leb 29 k && leb k 35 && not (eqb k 32)))
+    (not (eqb (valuesOf k) 0) || not (hasUnit k) || (leb 7 k && leb k 10) || (leb 29 k && leb k 35 && not (eqb k 32)))
     && (not (eqb (valuesOf k) 1) || (leb 1 k && leb k 6 && not (eqb k 2) && not (eqb k 5)) || (leb 21 k && leb k 32 && not (eqb k 29) && not (eqb k 30) && not (eqb k 31)))
     && (not (eqb (valuesOf k) 2) || (leb 2 k && leb k 5 && not (eqb k 3) && not (eqb k 4)))
 
@@ -211,11 +196,7 @@ unfolding all fits lookup
 all-fits = refl
 
 unit-low : (k : ℕ) → hasUnit k ≡ true → k < 53
-unit-low k e = elim (group k e) [ inl p ↦ omega arith | inr q ↦ elim q [ inl p ↦ omega arith | inr p ↦ omega arith ] ]
-
-or-two : (a b : Bool) → a || b ≡ true → (a ≡ true) ⊎ (b ≡ true)
-or-two true b e = inl refl
-or-two false b e = inr e
+unit-low k e = elim (group k e) [ inl p ↦ omega arith | inr p ↦ omega arith ]
 
 not-eq : (a b : ℕ) → not (eqb a b) ≡ true → a ≢ b
 not-eq a b e q = never (sym e ∙ rw (eq-eqb a b q))
@@ -225,7 +206,7 @@ module _ (k : ℕ) (e : hasUnit k ≡ true) where
   fit = all-at fits 53 all-fits k (unit-low k e)
 
   abbrev firsts : Bool
-  firsts = not (eqb (valuesOf k) 0) || not (hasUnit k) || leb 41 k || (leb 7 k && leb k 10) || (leb 29 k && leb k 35 && not (eqb k 32))
+  firsts = not (eqb (valuesOf k) 0) || not (hasUnit k) || (leb 7 k && leb k 10) || (leb 29 k && leb k 35 && not (eqb k 32))
 
   abbrev seconds : Bool
   seconds = not (eqb (valuesOf k) 1) || (leb 1 k && leb k 6 && not (eqb k 2) && not (eqb k 5)) || (leb 21 k && leb k 32 && not (eqb k 29) && not (eqb k 30) && not (eqb k 31))
@@ -233,11 +214,11 @@ module _ (k : ℕ) (e : hasUnit k ≡ true) where
   abbrev thirds : Bool
   thirds = not (eqb (valuesOf k) 2) || (leb 2 k && leb k 5 && not (eqb k 3) && not (eqb k 4))
 
-  pub none-is : valuesOf k ≡ 0 → k < 41 → ((7 ≤ k) × (k ≤ 10)) ⊎ ((29 ≤ k) × (k ≤ 35) × (k ≢ 32))
+  none-is : valuesOf k ≡ 0 → ((7 ≤ k) × (k ≤ 10)) ⊎ ((29 ≤ k) × (k ≤ 35) × (k ≢ 32))
   unfolding fits
-  none-is z l =
+  none-is z =
       let h : firsts ≡ true = both firsts seconds (both (firsts && seconds) thirds fit .0) .0 in
-      let g : (leb 7 k && leb k 10) || (leb 29 k && leb k 35 && not (eqb k 32)) ≡ true = rw (z, e, lt-leb 41 k (omega arith)) at h in
+      let g : (leb 7 k && leb k 10) || (leb 29 k && leb k 35 && not (eqb k 32)) ≡ true = rw (z, e) at h in
       elim (or-two (leb 7 k && leb k 10) (leb 29 k && leb k 35 && not (eqb k 32)) g) [
         | inl p ↦ let a = both (leb 7 k) (leb k 10) p in inl (leb-true 7 k (a .0), leb-true k 10 (a .1))
         | inr p ↦
@@ -246,7 +227,7 @@ module _ (k : ℕ) (e : hasUnit k ≡ true) where
             inr (leb-true 29 k (a .0), leb-true k 35 (a .1), not-eq k 32 (b .1))
       ]
 
-  pub one-is : valuesOf k ≡ 1 → ((1 ≤ k) × (k ≤ 6) × (k ≢ 2) × (k ≢ 5)) ⊎ ((21 ≤ k) × (k ≤ 32) × (k ≢ 29) × (k ≢ 30) × (k ≢ 31))
+  one-is : valuesOf k ≡ 1 → ((1 ≤ k) × (k ≤ 6) × (k ≢ 2) × (k ≢ 5)) ⊎ ((21 ≤ k) × (k ≤ 32) × (k ≢ 29) × (k ≢ 30) × (k ≢ 31))
   unfolding fits
   one-is z =
       let h : seconds ≡ true = both firsts seconds (both (firsts && seconds) thirds fit .0) .1 in
@@ -275,25 +256,19 @@ module _ (k : ℕ) (e : hasUnit k ≡ true) where
       let a = both (leb 2 k) (leb k 5) (b .0) in
       (leb-true 2 k (a .0), leb-true k 5 (a .1), not-eq k 3 (b .1), not-eq k 4 (d .1))
 
-  -- at most two, and none of a value
-  pub few : valuesOf k ≤ 2
-  few = elim (group k e) [
-    | inl p ↦ leaf-most (rowOf k .chain) (leaf-chain k (not-fold (λ q. omega arith) (λ q. omega arith)) (λ q. omega arith))
-    | inr r ↦ leaf-most (rowOf k .chain) (leaf-chain k (not-fold (λ q. elim r [ inl p ↦ omega arith | inr p ↦ omega arith ]) (λ q. elim r [ inl p ↦ omega arith | inr p ↦ omega arith ])) (λ q. elim r [ inl p ↦ omega arith | inr p ↦ omega arith ]))
-  ]
+  -- at most two
+  few : valuesOf k ≤ 2
+  few = leaf-most (rowOf k .chain) (leaf-chain k (rw (ne-eqb k 11 (other 11 refl refl), ne-eqb k 12 (other 12 refl refl))) (other 13 refl refl))
     where
-      not-fold : k ≢ 11 → k ≢ 12 → isFold k ≡ false
-      not-fold a b = rw (ne-eqb k 11 a, ne-eqb k 12 b)
-
-  pub value-none : 41 ≤ k → valuesOf k ≡ 0
-  value-none h = value-quiet k (rw (le-leb 41 k h, le-leb k 46 (high k e h))) .none
+      other : (m : ℕ) → leb m 10 ≡ false → leb 21 m ≡ false → k ≢ m
+      other m a b q = never (sym e ∙ rw (q, a, b, and-false (leb 1 m)))
 
   -- ---- the same, by the tests of `play`
-  pub none-mid : valuesOf k ≡ 0 → 21 ≤ k → k < 41 → (29 ≤ k) × (k ≤ 35) × (k ≢ 32)
-  none-mid z h l = elim (none-is z l) [ inl p ↦ absurd (omega arith) | inr p ↦ p ]
+  pub none-mid : valuesOf k ≡ 0 → 21 ≤ k → (29 ≤ k) × (k ≤ 35) × (k ≢ 32)
+  none-mid z h = elim (none-is z) [ inl p ↦ absurd (omega arith) | inr p ↦ p ]
 
   pub none-low : valuesOf k ≡ 0 → k < 21 → (7 ≤ k) × (k ≤ 10)
-  none-low z l = elim (none-is z (omega arith)) [ inl p ↦ p | inr p ↦ absurd (omega arith) ]
+  none-low z l = elim (none-is z) [ inl p ↦ p | inr p ↦ absurd (omega arith) ]
 
   pub one-mid : valuesOf k ≡ 1 → 21 ≤ k → (21 ≤ k) × (k ≤ 32) × (k ≢ 29) × (k ≢ 30) × (k ≢ 31)
   one-mid z h = elim (one-is z) [ inl p ↦ absurd (omega arith) | inr p ↦ p ]

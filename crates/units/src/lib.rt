@@ -1,10 +1,8 @@
-// A record's unit over a block, by its kind.
+// A node's own unit over a block, by its kind.
 ghost use mathlib.Core.Path.{_≡_};
 ghost use mathlib.Core.Bool.{true};
 ghost use Prim.Native.Nat.{_+_, _^_, _≤_, _<_};
 ghost use lib.ListN.{length};
-ghost use Rattle.sheet.specs.Record.{next};
-ghost use Rattle.layout.specs.Tables.{Table, Passed};
 ghost use Rattle.unit.specs.Unit.{kindUnit};
 ghost use Rattle.unit.specs.State.{ownOk};
 ghost use Rattle.unit.specs.Block.{Ran, Lent, Pitched};
@@ -23,35 +21,30 @@ pub fn values_of(kind: u8) -> u8
     0
 }
 
-// v and w are the buffers of the values, of which a kind reads as many as it has.
+// v and w are the buffers of the values, of which a kind reads as many as it has. Of the others the first is a buffer for what
+// the processors work out in passes.
 pub fn play(
     sheet: &[u8],
-    count: usize,
-    nexts: &[usize],
     i: usize,
     kind: u8,
     c: control::Controls,
     out: &mut [f32],
-    v: &[f32],
-    w: &[f32],
+    v: &mut [f32],
+    w: &mut [f32],
     pitch: &[f32],
     cells: &mut [f32],
     regs: &mut [u64],
 )
-    requires { ⌜ Passed (now sheet) count × Table (next (now sheet)) count (now nexts) × Lent (now sheet) i kind (length (now cells)) (length (now regs)) × (hasUnit kind ≡ true) × (ownOk (now sheet) i (now cells, now regs) ≡ true) × (length (now out) ≤ length (now v)) × (length (now out) ≤ length (now w)) × Pitched c (now pitch) (length (now out)) × (c .position + length (now out) < 2 ^ 64) ⌝ }
+    requires { ⌜ Lent (now sheet) i kind (length (now cells)) (length (now regs)) × (hasUnit kind ≡ true) × (ownOk (now sheet) i (now cells, now regs) ≡ true) × (length (now out) ≤ length (now v)) × (length (now out) ≤ length (now w)) × Pitched c (now pitch) (length (now out)) × (c .position + length (now out) < 2 ^ 64) ⌝ }
     ensures { λ r. ⌜ Ran (kindUnit (now (sheet .entry)) i) c (buffersOf (valuesOf kind) (now (v .entry)) (now (w .entry))) (now (out .entry)) (now (cells .entry)) (now (regs .entry)) (now (out .exit)) (now (cells .exit)) (now (regs .exit)) ⌝ }
 {
-    if 41 <= kind {
-        value_unit::play(sheet, count, nexts, i, kind, c, out, cells, regs);
-        return;
-    }
     let m = values_of(kind);
     if 21 <= kind {
         if m == 0 {
-            proc_unit::play0(sheet, i, kind, c, out, cells, regs);
+            proc_unit::play0(sheet, i, kind, c, out, v, cells, regs);
             return;
         }
-        proc_unit::play1(sheet, i, kind, c, out, v, cells, regs);
+        proc_unit::play1(sheet, i, kind, c, out, v, w, cells, regs);
         return;
     }
     if m == 0 {

@@ -26,7 +26,7 @@ use Rattle.unit.specs.Voice.{voice, treeKind, entered, playing}
 use Rattle.unit.specs.Sound.{OwnSound}
 use Rattle.units.specs.Values.{valuesOf, buffersOf, hasUnit, leaf-chain, leaf-quiet, leaf-most, leaf-values, value-quiet}
 use Rattle.walk.specs.Nodes.{value-blind}
-use Rattle.walk.specs.Walk.{Sound, Voiced, Ready, Lends, Played, Leafed}
+use Rattle.walk.specs.Walk.{Sound, Voiced, Ready, Owned, Lends, Valued, Played, Leafed}
 
 playing-none : (c : Chain) → playing c 0 ≡ 0
 playing-none empty = refl
@@ -127,22 +127,17 @@ module _ {s : List ℕ} {count : ℕ} (v : Voiced s count) where
   played-sound i h c xs bufs cs rs ys ds ss a p =
       subst (All (voice s) (OwnSound s)) (sym (ap (λ (t : List Float × Own). t .1) (p .is))) (played-all (voice s) (v .valid) (OwnSound s) (v .kept) i h c xs bufs (cs, rs) a)
 
--- ---- what own is lent, by what the walk is lent
-pub lends-unit : {s : List ℕ} {count : ℕ} {nexts acts begins afters places words : List ℕ} {c : Controls} {pitch : List Float} {n nv nw : ℕ} → Ready s count nexts acts begins afters places words c pitch n nv nw
-    → (i : ℕ) → i < countOf s → role s i ≡ built → hasUnit (kind s i) ≡ true → {m mv mw : ℕ} → m ≡ n → n ≤ mv → n ≤ mw → Lends s count nexts places words i c pitch m mv mw
-lends-unit r i h b u {m} {mv} {mw} e p q = record {
-  voiced = r .voiced;
-  next-at = r .next-at;
-  cells-at = r .cells-at;
-  registers-at = r .registers-at;
-  inside = omega (arith, r .voiced .passed .count);
-  built-is = b;
-  unit-is = u;
-  pitched = rw e (r .pitched);
-  early = rw e (r .early);
-  first-long = omega arith;
-  second-long = omega arith;
-}
+-- ---- what a record's own function is lent, by what the walk is lent
+module _ {s : List ℕ} {count : ℕ} {nexts acts begins afters places words : List ℕ} {c : Controls} {pitch : List Float} {n nv nw : ℕ} (r : Ready s count nexts acts begins afters places words c pitch n nv nw) where
+  owned-of : (i : ℕ) → i < countOf s → role s i ≡ built → Owned s count places words i
+  owned-of i h b = record { voiced = r .voiced; cells-at = r .cells-at; registers-at = r .registers-at; inside = omega (arith, r .voiced .passed .count); built-is = b }
+
+  pub lends-unit : (i : ℕ) → i < countOf s → role s i ≡ built → hasUnit (kind s i) ≡ true → {mv mw : ℕ} → mv ≡ n → mw ≡ n → Lends s count places words i c pitch n mv mw
+  lends-unit i h b u p q = record { owned = owned-of i h b; unit-is = u; pitched = r .pitched; early = r .early; first-long = omega arith; second-long = omega arith }
+
+  -- record j of a table is value k of record i
+  pub lends-value : (i j k : ℕ) → j ≡ k → Value s (good s (r .voiced .passed .passed)) i k → {m : ℕ} → m ≡ n → Valued s count nexts places words j c m
+  lends-value i j k e w q = rw (e, q) (record { owned = owned-of k (w .in-sheet) (w .made); next-at = r .next-at; value-is = w .value; early = r .early })
 
 -- ---- roles by their numbers
 pub unbuilt-of : (r : Role) (a : ℕ) → a ≡ roleCode r → a < 2 → isBuilt r ≡ false
@@ -155,11 +150,10 @@ built-of out a e h = let z : ⊥ = omega arith in absurd z
 built-of silent a e h = let z : ⊥ = omega arith in absurd z
 built-of built a e h = refl
 
--- ---- what `own` says of a value and of a leaf
-pub value-played : (s : List ℕ) (j k : ℕ) (c : Controls) (xs v w cs : List Float) (rs : List ℕ) (ys ds : List Float) (ss : List ℕ) → j ≡ k → isValue (kind s k) ≡ true
-    → Played s j c xs (buffersOf (valuesOf (kind s j)) v w) cs rs ys ds ss → Played s k c xs [] cs rs ys ds ss
-value-played s j k c xs v w cs rs ys ds ss e u p =
-    subst (λ n. Played s k c xs (buffersOf n v w) cs rs ys ds ss) (value-quiet (kind s k) u .none) (subst (λ n. Played s n c xs (buffersOf (valuesOf (kind s n)) v w) cs rs ys ds ss) e p)
+-- ---- what is said of a value by its number in a table, and of a leaf by how many values it has
+pub played-at : {s : List ℕ} {j k : ℕ} {c : Controls} {xs : List Float} {bufs : List (List Float)} {cs : List Float} {rs : List ℕ} {ys ds : List Float} {ss : List ℕ} → j ≡ k
+    → Played s j c xs bufs cs rs ys ds ss → Played s k c xs bufs cs rs ys ds ss
+played-at e p = rw (← e) p
 
 pub leaf-played : (s : List ℕ) (i n : ℕ) (c : Controls) (xs v w cs : List Float) (rs : List ℕ) (ys ds : List Float) (ss : List ℕ) → valuesOf (kind s i) ≡ n
     → Played s i c xs (buffersOf (valuesOf (kind s i)) v w) cs rs ys ds ss → Played s i c xs (buffersOf n v w) cs rs ys ds ss
@@ -171,6 +165,3 @@ leaf-two-is k m f d e p q = let l = leaf-most (rowOf k .chain) (leaf-chain k f d
 
 pub leaf-some : (k m : ℕ) → m ≡ valuesOf k → isFold k ≡ false → k ≢ 13 → m ≢ 0 → (n : ℕ) × (valuesOf k ≡ suc n) × (n ≤ 1)
 leaf-some k m e f d p = let l = leaf-most (rowOf k .chain) (leaf-chain k f d) in (m - 1, omega arith, omega arith)
-
-pub lends-at : {s : List ℕ} {count : ℕ} {nexts places words : List ℕ} {i j : ℕ} {c : Controls} {pitch : List Float} {n nv nw : ℕ} → i ≡ j → Lends s count nexts places words i c pitch n nv nw → Lends s count nexts places words j c pitch n nv nw
-lends-at e l = rw (← e) l

@@ -1,36 +1,36 @@
 -- What the walk is lent for a block, and what it leaves: the block runs of the voice's theory (`source`, `along` and `played` of crate block's Patch).
 use mathlib.Core.Path.{_≡_, refl, sym, ap, ap₂, _∙_, subst, subst₃}
-use mathlib.Core.Bool.{true, false, cond}
+use mathlib.Core.Bool.{Bool, true, false, cond, _||_}
 use mathlib.Core.List.{List, [], _∷_, _++_, map}
 use mathlib.Core.Logic.{_≢_}
 use Prim.Native.Nat.{ℕ, zero, suc, _+_, _-_, _^_, _≤_, _<_}
 use native.Mathlib.Omega.{arith}
 use native.Mathlib.Decide.{ℕ-discrete}
-use lib.Dec.{eqb}
-use lib.ListN.{length, getD, take, drop, length-map, length-drop, replicate}
+use lib.Dec.{eqb, leb}
+use lib.ListN.{length, getD, take, drop, length-map, length-take, length-drop, replicate}
 use lib.Seq.{sets, take-take, take-at, drop-at, drop-drop, length-take-le}
 use lib.Ieee.{Float}
-use borrow.Author.Tests.{eq-eqb, ne-eqb}
+use borrow.Author.Tests.{eq-eqb, ne-eqb, leb-true}
 use Rattle.tree.specs.Comm.{M, zip}
 use Rattle.tree.specs.Tree.{Mode, piping, joining, leaf, fold, chain, bstep, bone}
 use Rattle.tree.specs.Lists.{map-const, zip-length, lay-part}
 use Rattle.block.specs.Patch.{Valid, All, source, along, played, along-none, along-some, source-all}
 use Rattle.control.specs.declared.Controls.{Controls}
 use Rattle.sheet.specs.Record.{countOf, kind, next}
-use Rattle.sheet.specs.Kinds.{nodes, rowOf, isFold}
+use Rattle.sheet.specs.Kinds.{nodes, rowOf, isFold, isValue}
 use Rattle.layout.specs.Built.{role, built, begin, after}
 use Rattle.layout.specs.Needs.{cells, registers, scratch, cellsBy, registersBy, cellsFrom, registersFrom, scratchFrom}
 use Rattle.layout.specs.Tables.{Table, Passed, roleCode}
 use Rattle.layout.specs.Good.{good}
 use Rattle.layout.specs.Laws.{playable}
 use Rattle.layout.specs.Counts.{cells-built, registers-built}
-use Rattle.sheet.specs.Laws.{sum-suc}
+use Rattle.sheet.specs.Laws.{sum-suc, never, both}
 use Rattle.unit.specs.Own.{Own, Ugen, silence}
 use Rattle.unit.specs.Unit.{kindUnit, unitOf}
 use Rattle.unit.specs.Voice.{voice, treeKind, entered, joinOf, emptyOf}
 use Rattle.unit.specs.State.{ownOk}
 use Rattle.unit.specs.Sound.{OwnSound, UnitsKeep, voice-valid, units-keep}
-use Rattle.unit.specs.Block.{Pitched, Ran}
+use Rattle.unit.specs.Block.{Pitched, Ran, Lent}
 use Rattle.units.specs.Values.{hasUnit}
 use Rattle.walk.specs.Nodes.{Member, begin-member, after-member}
 
@@ -69,19 +69,29 @@ pub record Ready (s : List ℕ) (count : ℕ) (nexts acts begins afters places w
   pub first-buffer : nv ≡ n
   pub second-buffer : nw ≡ n
 
--- what plays a record's own unit is lent: v and w are the buffers of its values
-pub record Lends (s : List ℕ) (count : ℕ) (nexts places words : List ℕ) (i : ℕ) (c : Controls) (pitch : List Float) (n nv nw : ℕ) : Type 0 where
+-- what plays record i by itself is lent: the tables that say which parts are its own
+pub record Owned (s : List ℕ) (count : ℕ) (places words : List ℕ) (i : ℕ) : Type 0 where
   pub voiced : Voiced s count
-  pub next-at : Table (next s) count nexts
   pub cells-at : Table (cellsFrom s) (count + 1) places
   pub registers-at : Table (registersFrom s) (count + 1) words
   pub inside : i < count
   pub built-is : role s i ≡ built
+
+-- a node: of the two buffers, which hold its values
+pub record Lends (s : List ℕ) (count : ℕ) (places words : List ℕ) (i : ℕ) (c : Controls) (pitch : List Float) (n nv nw : ℕ) : Type 0 where
+  pub owned : Owned s count places words i
   pub unit-is : hasUnit (kind s i) ≡ true
   pub pitched : Pitched c pitch n
   pub early : c .position + n < 2 ^ 64
   pub first-long : n ≤ nv
   pub second-long : n ≤ nw
+
+-- a value
+pub record Valued (s : List ℕ) (count : ℕ) (nexts places words : List ℕ) (i : ℕ) (c : Controls) (n : ℕ) : Type 0 where
+  pub owned : Owned s count places words i
+  pub next-at : Table (next s) count nexts
+  pub value-is : isValue (kind s i) ≡ true
+  pub early : c .position + n < 2 ^ 64
 
 pub record Scratch (s : List ℕ) (count : ℕ) (blocks : List ℕ) (n : ℕ) : Type 0 where
   pub scratch-at : Table (scratchFrom s) (count + 1) blocks
@@ -369,6 +379,14 @@ pub leaf-is : (s : List ℕ) (i : ℕ) → isFold (kind s i) ≡ false → kind 
 unfolding treeKind
 leaf-is s i e d = rw (e, ne-eqb (kind s i) 13 d)
 
+-- a leaf's kind k, by the tests on the number n that was read
+pub leaf-left : {k n : ℕ} {f : Bool} → n ≡ k → f ≡ isFold n → f || eqb n 13 ≡ false → (isFold k ≡ false) × (k ≢ 13)
+leaf-left {k} {n} {f} p q e = let r = neither f (eqb n 13) e in (ap isFold (sym p) ∙ sym q ∙ r .0, λ z. never (sym (eq-eqb n 13 (p ∙ z)) ∙ r .1))
+  where
+    neither : (a b : Bool) → a || b ≡ false → (a ≡ false) × (b ≡ false)
+    neither true b x = never x
+    neither false b x = (refl, x)
+
 -- what is left of the records from j on, none from 0
 unfoldable pub left : List ℕ → ℕ → ℕ
 left s j = cond (eqb j 0) 0 (countOf s - j)
@@ -393,7 +411,7 @@ pub record Parts (s places words : List ℕ) (i nc nr : ℕ) : Type 0 where
   pub rin : getD words (i + 1) 0 ≤ nr
   pub rn : getD words (i + 1) 0 - getD words i 0 ≡ registersBy s i
 
-pub parts-of : {s : List ℕ} {count : ℕ} {nexts places words : List ℕ} {i : ℕ} {c : Controls} {pitch : List Float} {n nv nw : ℕ} → Lends s count nexts places words i c pitch n nv nw
+pub parts-of : {s : List ℕ} {count : ℕ} {places words : List ℕ} {i : ℕ} → Owned s count places words i
     → {cs : List Float} {rs : List ℕ} → Sound s cs rs → Parts s places words i (length cs) (length rs)
 parts-of {s} {i = i} l {cs} {rs} a =
     let h = l .voiced .passed .count in
@@ -419,6 +437,25 @@ parts-of {s} {i = i} l {cs} {rs} a =
       rin = omega (arith, room .1);
       rn = omega arith;
     }
+
+-- the part of a table's row, and what the function of the record's kind is lent
+abbrev pub part : {A : Type 0} → List ℕ → ℕ → List A → List A
+part t i xs = take (getD t (i + 1) 0 - getD t i 0) (drop (getD t i 0) xs)
+
+pub lent-of : {s : List ℕ} {count : ℕ} {places words : List ℕ} {i : ℕ} → Owned s count places words i → {cs : List Float} {rs : List ℕ} → Sound s cs rs → {k : ℕ} → k ≡ kind s i
+    → Lent s i k (length (part places i cs)) (length (part words i rs))
+lent-of o a e =
+    let w = parts-of o a in
+    record {
+      passed = o .voiced .passed .passed;
+      inside = omega (arith, o .inside, o .voiced .passed .count);
+      kind-is = e;
+      cells = simp (length-take, length-drop) (omega (arith, w .cin, w .cup, w .cn));
+      registers = simp (length-take, length-drop) (omega (arith, w .rin, w .rup, w .rn));
+    }
+
+pub value-kinds : (k : ℕ) → isValue k ≡ true → (41 ≤ k) × (k ≤ 46)
+value-kinds k e = let r = both (leb 41 k) (leb k 46) e in (leb-true 41 k (r .0), leb-true k 46 (r .1))
 
 ran-same : {f g : Ugen} {c : Controls} {bufs : List (List Float)} {xs cs : List Float} {rs : List ℕ} {ys ds : List Float} {ss : List ℕ} {cs′ : List Float} {rs′ : List ℕ}
     → Ran f c bufs xs cs rs ys ds ss → f ≡ g → cs ≡ cs′ → rs ≡ rs′ → Ran g c bufs xs cs′ rs′ ys ds ss

@@ -2,7 +2,7 @@
 // a chain, and the chain function enters its source stage; along a chain goes a loop, so the stack is as deep as nodes nest.
 ghost use mathlib.Core.Path.{_≡_};
 ghost use mathlib.Core.Bool.{true, false};
-ghost use mathlib.Core.List.{map};
+ghost use mathlib.Core.List.{[], map};
 ghost use Prim.Native.Nat.{_+_, _≤_, _<_};
 ghost use lib.ListN.{length};
 ghost use Rattle.tree.specs.Comm.{zip};
@@ -13,7 +13,7 @@ ghost use Rattle.unit.specs.Voice.{joinOf, emptyOf};
 ghost use Rattle.units.specs.Values.{valuesOf, buffersOf};
 ghost use mathlib.Core.Logic.{_≢_};
 ghost use Rattle.walk.specs.Nodes.{Node};
-ghost use Rattle.walk.specs.Walk.{Ready, Scratch, Sound, Lends, Played, Leafed, Sourced, Chained, Mixed, put, mid};
+ghost use Rattle.walk.specs.Walk.{Ready, Scratch, Sound, Lends, Valued, Played, Leafed, Sourced, Chained, Mixed, put, mid};
 
 // Mix adds, Mul multiplies.
 fn join(kind: u8, a: f32, b: f32) -> f32
@@ -82,23 +82,22 @@ fn is_fold(kind: u8) -> bool
     (kind == 11) | (kind == 12)
 }
 
-// A built record's own unit, on its own parts of the cells and registers.
+// A built node's own unit, on its own parts of the cells and registers. v and w are its values, or buffers.
 fn own(
     sheet: &[u8],
     count: usize,
-    nexts: &[usize],
     places: &[usize],
     words: &[usize],
     i: usize,
     c: control::Controls,
     out: &mut [f32],
-    v: &[f32],
-    w: &[f32],
+    v: &mut [f32],
+    w: &mut [f32],
     pitch: &[f32],
     cells: &mut [f32],
     regs: &mut [u64],
 )
-    requires { ⌜ Lends (now sheet) count (now nexts) (now places) (now words) i c (now pitch) (length (now out)) (length (now v)) (length (now w)) × Sound (now sheet) (now cells) (now regs) ⌝ }
+    requires { ⌜ Lends (now sheet) count (now places) (now words) i c (now pitch) (length (now out)) (length (now v)) (length (now w)) × Sound (now sheet) (now cells) (now regs) ⌝ }
     ensures { λ r. ⌜ Played (now (sheet .entry)) i c (now (out .entry)) (buffersOf (valuesOf (kind (now (sheet .entry)) i)) (now (v .entry)) (now (w .entry))) (now (cells .entry)) (now (regs .entry)) (now (out .exit)) (now (cells .exit)) (now (regs .exit)) ⌝ }
 {
     let k = sheet::kind_at(sheet, i);
@@ -108,8 +107,6 @@ fn own(
     let q = words[i + 1];
     units::play(
         sheet,
-        count,
-        nexts,
         i,
         k,
         c,
@@ -122,7 +119,41 @@ fn own(
     );
 }
 
-// A record that plays by its own unit: v and w are buffers for its values.
+// A built value's own unit, on its own parts, into a buffer.
+fn value(
+    sheet: &[u8],
+    count: usize,
+    nexts: &[usize],
+    places: &[usize],
+    words: &[usize],
+    i: usize,
+    c: control::Controls,
+    out: &mut [f32],
+    cells: &mut [f32],
+    regs: &mut [u64],
+)
+    requires { ⌜ Valued (now sheet) count (now nexts) (now places) (now words) i c (length (now out)) × Sound (now sheet) (now cells) (now regs) ⌝ }
+    ensures { λ r. ⌜ Played (now (sheet .entry)) i c (now (out .entry)) [] (now (cells .entry)) (now (regs .entry)) (now (out .exit)) (now (cells .exit)) (now (regs .exit)) ⌝ }
+{
+    let k = sheet::kind_at(sheet, i);
+    let a = places[i];
+    let e = places[i + 1];
+    let p = words[i];
+    let q = words[i + 1];
+    value_unit::play(
+        sheet,
+        count,
+        nexts,
+        i,
+        k,
+        c,
+        out,
+        &mut cells[a..e],
+        &mut regs[p..q],
+    );
+}
+
+// A record that plays by its own unit: v and w are buffers, for its values first.
 fn leaf(
     sheet: &[u8],
     count: usize,
@@ -153,14 +184,13 @@ fn leaf(
         own(
             sheet,
             count,
-            nexts,
             places,
             words,
             i,
             c,
             out,
-            pitch,
-            pitch,
+            v,
+            w,
             pitch,
             cells,
             regs,
@@ -168,33 +198,18 @@ fn leaf(
         return;
     }
     let j = begins[i];
-    own(
-        sheet,
-        count,
-        nexts,
-        places,
-        words,
-        j,
-        c,
-        v,
-        pitch,
-        pitch,
-        pitch,
-        cells,
-        regs,
-    );
+    value(sheet, count, nexts, places, words, j, c, v, cells, regs);
     if m == 1 {
         own(
             sheet,
             count,
-            nexts,
             places,
             words,
             i,
             c,
             out,
             v,
-            v,
+            w,
             pitch,
             cells,
             regs,
@@ -202,25 +217,10 @@ fn leaf(
         return;
     }
     let k = afters[j];
+    value(sheet, count, nexts, places, words, k, c, w, cells, regs);
     own(
         sheet,
         count,
-        nexts,
-        places,
-        words,
-        k,
-        c,
-        w,
-        pitch,
-        pitch,
-        pitch,
-        cells,
-        regs,
-    );
-    own(
-        sheet,
-        count,
-        nexts,
         places,
         words,
         i,
@@ -328,7 +328,7 @@ pub fn source(
     );
 }
 
-// The stages of a Chain from its source stage on: out goes through each.
+// The stages of a Chain from its source stage on: out goes through each. Most are leaves, and are played from here.
 fn chain(
     sheet: &[u8],
     count: usize,
@@ -354,7 +354,32 @@ fn chain(
 {
     let mut j = begins[i];
     while j != 0 {
-        source(
+        let k = sheet::kind_at(sheet, j);
+        if is_fold(k) | (k == 13) {
+            source(
+                sheet,
+                count,
+                nexts,
+                acts,
+                begins,
+                afters,
+                places,
+                words,
+                blocks,
+                j,
+                c,
+                out,
+                v,
+                w,
+                pitch,
+                cells,
+                regs,
+                scr,
+            );
+            j = afters[j];
+            continue;
+        }
+        leaf(
             sheet,
             count,
             nexts,
@@ -363,7 +388,6 @@ fn chain(
             afters,
             places,
             words,
-            blocks,
             j,
             c,
             out,
@@ -372,7 +396,6 @@ fn chain(
             pitch,
             cells,
             regs,
-            scr,
         );
         j = afters[j];
     }
@@ -407,7 +430,33 @@ fn mix(
     let mut j = begins[i];
     while j != 0 {
         block::fill_block(out, 0.0);
-        source(
+        let m = sheet::kind_at(sheet, j);
+        if is_fold(m) | (m == 13) {
+            source(
+                sheet,
+                count,
+                nexts,
+                acts,
+                begins,
+                afters,
+                places,
+                words,
+                blocks,
+                j,
+                c,
+                out,
+                v,
+                w,
+                pitch,
+                cells,
+                regs,
+                scr,
+            );
+            scratch_join(k, scr, at, out);
+            j = afters[j];
+            continue;
+        }
+        leaf(
             sheet,
             count,
             nexts,
@@ -416,7 +465,6 @@ fn mix(
             afters,
             places,
             words,
-            blocks,
             j,
             c,
             out,
@@ -425,7 +473,6 @@ fn mix(
             pitch,
             cells,
             regs,
-            scr,
         );
         scratch_join(k, scr, at, out);
         j = afters[j];

@@ -37,12 +37,12 @@ kernels! {
 
     block_gain(out: f32, amount: f32;);
     block_filter(out: f32, cutoff: f32, cells: f32; kind: u8, db: f32, q: f32, sr: u32);
-    block_drive(out: f32, amount: f32, cells: f32; shape: u8);
+    block_drive(out: f32, amount: f32, cells: f32, buf: f32; shape: u8);
     block_drive_plain(out: f32, amount: f32; shape: u8);
-    block_tremolo(out: f32; rate: f32, depth: f32, srf: f32, t: u64);
-    block_compress(out: f32, cells: f32; threshold: f32, ratio: f32);
+    block_tremolo(out: f32, buf: f32; rate: f32, depth: f32, srf: f32, t: u64);
+    block_compress(out: f32, cells: f32, buf: f32; threshold: f32, ratio: f32);
     block_delay(out: f32, line: f32, words: u64; feedback: f32);
-    block_chorus(out: f32, line: f32, words: u64; base: f32, swing: f32, rate: f32, srf: f32, mix: f32, t: u64);
+    block_chorus(out: f32, line: f32, words: u64, buf: f32; base: f32, swing: f32, rate: f32, srf: f32, mix: f32, t: u64);
     block_modal(out: f32, cells: f32; mix: f32, n: usize);
     block_reverb(out: f32, lens: u64, cells: f32, regs: u64; feedback: f32, mix: f32);
 }

@@ -260,10 +260,11 @@ fn filters() -> Vec<Row> {
 fn drive(name: &str, shape: DriveShape, aa: bool) -> Row {
     let node = || Node::Drive { amount: Value::Const(3.0), shape, aa: Some(aa) };
     let (mut amount, mut cells) = (Constant::of(3.0), [0.0, Processor::build(&node(), SR, N).f_prev(), 0.0, 0.0]);
+    let mut buf = [0.0; BLOCK];
     let port: Kernel = Box::new(move |out, _| {
         let amount = amount.block(out.len());
         if aa {
-            block_drive(out, amount, &mut cells, shape as u8)
+            block_drive(out, amount, &mut cells, &mut buf, shape as u8)
         } else {
             block_drive_plain(out, amount, shape as u8)
         }
@@ -287,9 +288,10 @@ fn lines() -> Vec<Row> {
     let (mut line, mut words) = (vec![0.0; Processor::build(&delay(), SR, N).line_len()], [0]);
     let echo: Kernel = Box::new(move |out, _| block_delay(out, &mut line, &mut words, 0.4));
     let (base, swing, len) = chorus_built(0.5, SR);
-    let (mut line, mut words) = (vec![0.0; len], [0]);
-    let chorus: Kernel =
-        Box::new(move |out, t| block_chorus(out, &mut line, &mut words, base, swing, 1.5, SRF, 0.4, t as u64));
+    let (mut line, mut words, mut buf) = (vec![0.0; len], [0], [0.0; BLOCK]);
+    let chorus: Kernel = Box::new(move |out, t| {
+        block_chorus(out, &mut line, &mut words, &mut buf, base, swing, 1.5, SRF, 0.4, t as u64)
+    });
     vec![
         Row::new("Delay", processor(delay()), echo),
         reverb(),
@@ -314,11 +316,12 @@ fn modal(name: &str, count: usize) -> Row {
 }
 
 fn levels() -> Vec<Row> {
-    let tremolo: Kernel = Box::new(|out, t| block_tremolo(out, 6.0, 0.5, SRF, t as u64));
+    let mut buf = [0.0; BLOCK];
+    let tremolo: Kernel = Box::new(move |out, t| block_tremolo(out, &mut buf, 6.0, 0.5, SRF, t as u64));
     let node = || Node::Compress { threshold: -18.0, ratio: 4.0, attack: 0.005, release: 0.08, makeup: 3.0 };
     let [at, rt, makeup] = Processor::build(&node(), SR, N).follower();
-    let mut cells = [0.0, at, rt, makeup];
-    let compress: Kernel = Box::new(move |out, _| block_compress(out, &mut cells, -18.0, 4.0));
+    let (mut cells, mut buf) = ([0.0, at, rt, makeup], [0.0; BLOCK]);
+    let compress: Kernel = Box::new(move |out, _| block_compress(out, &mut cells, &mut buf, -18.0, 4.0));
     vec![
         Row::new("Tremolo", processor(Node::Tremolo { rate: 6.0, depth: 0.5 }), tremolo),
         Row::new("Compress", processor(node()), compress),

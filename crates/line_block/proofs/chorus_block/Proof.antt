@@ -1,72 +1,32 @@
 -- `line_block::chorus_block` meets its contract. Assumes nothing.
-use mathlib.Core.Path.{_≡_, refl, ap, _∙_}
-use Prim.Native.Nat.{ℕ, _-_, _+_, _<_, _≤_}
-use native.Mathlib.Nat.{le-refl}
-use native.Mathlib.Omega.{arith}
-use lib.ListN.{length, getD, set, length-set}
-use lib.Ieee.{Float, nan}
+use mathlib.Core.Path.{sym}
+use lib.Seq.{length-take-le}
 use borrow.Author.Needs.{needs}
-use Rattle.block.specs.Loop.{Going, going-start, going-turn, going-end}
-use Rattle.proc.specs.declared.ChorusRead.{ChorusRead}
-use Rattle.proc.specs.Effects.{chorusOf}
-use Rattle.line_block.specs.Steps.{chorusStep}
 use Rattle.line_block.proofs.chorus_block.Statement.{statement}
 use Rattle.line_block.proofs.chorus_block.Tie as tie
 
-abbrev Inv-loop : tie.InvT-loop
-Inv-loop out₀ line₀ base swing rate srf mix t place len w₀ k₀ out line w k = Going nan (chorusStep out₀ base swing rate srf mix (length line₀) t) (line₀, place) out₀ k out (line, w) × (length line ≡ length line₀) × (w < length line)
+slice-relend-prefix-chorus-in : tie.Need-slice-relend-prefix-chorus-in
+slice-relend-prefix-chorus-in c = search needs
 
-abbrev μ-loop : tie.MeasureT-loop
-μ-loop out₀ line₀ base swing rate srf mix t place len w₀ k₀ out line w k = length out₀ - k
+slice-aggregate-chorus-in : tie.Need-slice-aggregate-chorus-in
+slice-aggregate-chorus-in c = sym (length-take-le _ _ (slice-relend-prefix-chorus-in (c .before)))
 
-loop-holds : tie.Need-loop-holds Inv-loop μ-loop
-loop-holds c = (going-start nan _ _ _, refl, c .before .before .pre .0)
+chorus-in-requires : tie.Need-chorus-in-requires
+chorus-in-requires c κs =
+    let p = c .before .before .before .before .before .before .pre in
+    (p .0, p .1, length-take-le _ _ (slice-relend-prefix-chorus-in (c .before .before)))
 
-loop-again : tie.Need-loop-again Inv-loop μ-loop
-unfolding chorusStep
-loop-again c =
-    let l = c .before .before .before .before .before .before .before .loop in
-    let a = c .before .before .before .before .before .before .before .before .before .before .args in
-    let g = l .inv .0 in
-    let x = g .todo (l .k) (le-refl (l .k)) in
-    let r = c .before .before .before .before .chorus-read .ensures .0 in
-    let long = length-set (l .line) (l .w) (getD (l .out) (l .k) nan) ∙ l .inv .1 in
-    let mixed : Float → ChorusRead → Float = λ x r. chorusOf (a .mix) (r .frac) x (getD (set (l .line) (l .w) x) (r .i0) nan) (getD (set (l .line) (l .w) x) (r .i1) nan) in (
-      going-turn nan _ _ _ g (omega arith) (c .before .chorus .ensures ∙ (λ i. mixed (x i) (r i))) (λ i. (set (l .line) (l .w) (x i), c .next-place .ensures .0 i)),
-      long,
-      omega (arith, long, c .next-place .ensures .1),
-    )
-
-returns : tie.Need-returns Inv-loop μ-loop
-returns c =
-    let l = c .before .loop in
-    let e = going-end nan _ _ _ (l .inv .0) (omega arith) in
-    (e .0, e .1, l .inv .2)
+returns : tie.Need-returns
+returns c = c .before .before .before .before .before .before .chorus-in .ensures
 
 pub chorus-block-spec : {M : Type 1} → statement M
 chorus-block-spec =
     tie.close
     (tie.spec
-    Inv-loop
-    μ-loop
-    loop-holds
+    slice-relend-prefix-chorus-in
+    slice-aggregate-chorus-in
+    chorus-in-requires
     (λ c. search needs)
-    (λ c. search needs)
-    (λ c. search needs)
-    (λ c. search needs)
-    (λ c. search needs)
-    (λ c κs. search needs)
-    (λ c. search needs)
-    (λ c. search needs)
-    (λ c. search needs)
-    (λ c. search needs)
-    (λ c κs. search needs)
-    (λ c. search needs)
-    (λ c. search needs)
-    (λ c κs. search needs)
-    (λ c. search needs)
-    (λ c. search needs)
-    loop-again
     (λ c. search needs)
     (λ c. search needs)
     returns)

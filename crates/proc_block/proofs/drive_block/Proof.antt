@@ -5,31 +5,29 @@ use borrow.Author.Needs.{needs}
 use Rattle.proc_block.proofs.drive_block.Statement.{statement}
 use Rattle.proc_block.proofs.drive_block.Tie as tie
 
-array-borrow-prefix-fs : tie.Need-array-borrow-prefix-fs
-array-borrow-prefix-fs c = search needs
+slice-relend-prefix-drive-tanh : tie.Need-slice-relend-prefix-drive-tanh
+slice-relend-prefix-drive-tanh c = search needs
 
 slice-aggregate-drive-tanh : tie.Need-slice-aggregate-drive-tanh
-slice-aggregate-drive-tanh c = sym (length-take-le _ _ (array-borrow-prefix-fs (c .before)))
+slice-aggregate-drive-tanh c = sym (length-take-le _ _ (slice-relend-prefix-drive-tanh (c .before)))
 
 drive-tanh-requires : tie.Need-drive-tanh-requires
-drive-tanh-requires c κs = (c .before .before .before .before .before .before .before .pre, length-take-le _ _ (array-borrow-prefix-fs (c .before)))
+drive-tanh-requires c κs = (c .before .before .before .before .before .before .before .pre .0, length-take-le _ _ (slice-relend-prefix-drive-tanh (c .before)))
 
-returns-2 : tie.Need-returns-2
-returns-2 c = rw (c .before .before .before .before .before .before .enum-told .given .1) (c .before .before .before .drive-tanh .ensures)
+returns : tie.Need-returns
+returns c = rw (c .before .before .before .before .before .before .before .enum-told .given .1) (c .before .before .before .before .drive-tanh .ensures)
 
 pub drive-block-spec : {M : Type 1} → statement M
 drive-block-spec =
     tie.close
     (tie.spec
-    (λ c κs. search needs)
     (λ c. search needs)
-    (λ c. search needs)
-    (λ c. search needs)
-    array-borrow-prefix-fs
+    slice-relend-prefix-drive-tanh
     slice-aggregate-drive-tanh
     drive-tanh-requires
     (λ c κs. search needs)
     (λ c. search needs)
-    returns-2
+    (λ c. search needs)
+    returns
     (λ c. search needs)
     (λ c. search needs))

@@ -1,52 +1,29 @@
 -- `proc_block::tremolo_block` meets its contract. Assumes nothing.
-use mathlib.Core.Path.{refl, ap, _∙_}
-use Prim.Native.Nat.{_-_}
-use native.Mathlib.Nat.{le-refl}
-use native.Mathlib.Omega.{arith}
-use lib.ListN.{length}
-use lib.Ieee.{Float, nan}
-use Rattle.block.specs.Loop.{Going, going-start, going-turn, going-end}
-use Rattle.proc.specs.Effects.{tremoloOf}
-use Prim.Native.Nat.{_+_}
-use Rattle.proc_block.specs.Steps.{tremoloStep}
+use mathlib.Core.Path.{sym}
+use lib.Seq.{length-take-le}
 use borrow.Author.Needs.{needs}
 use Rattle.proc_block.proofs.tremolo_block.Statement.{statement}
 use Rattle.proc_block.proofs.tremolo_block.Tie as tie
 
-abbrev Inv-loop : tie.InvT-loop
-Inv-loop out₀ rate depth srf t k₀ out k = Going nan (tremoloStep out₀ rate depth srf t) tt out₀ k out tt
+slice-relend-prefix-tremolo-in : tie.Need-slice-relend-prefix-tremolo-in
+slice-relend-prefix-tremolo-in c = search needs
 
-abbrev μ-loop : tie.MeasureT-loop
-μ-loop out₀ rate depth srf t k₀ out k = length out₀ - k
+slice-aggregate-tremolo-in : tie.Need-slice-aggregate-tremolo-in
+slice-aggregate-tremolo-in c = sym (length-take-le _ _ (slice-relend-prefix-tremolo-in (c .before)))
 
-loop-holds : tie.Need-loop-holds Inv-loop μ-loop
-loop-holds c = going-start nan _ _ _
+tremolo-in-requires : tie.Need-tremolo-in-requires
+tremolo-in-requires c κs = (c .before .before .before .before .pre .0, length-take-le _ _ (slice-relend-prefix-tremolo-in (c .before)))
 
-loop-again : tie.Need-loop-again Inv-loop μ-loop
-unfolding tremoloStep
-loop-again c =
-    let l = c .before .before .before .loop in
-    let a = c .before .before .before .before .before .args in
-    going-turn nan _ _ _ (l .inv) (omega arith) (c .tremolo .ensures ∙ ap (λ (x : Float). tremoloOf (a .rate) (a .depth) (a .srf) (a .t + l .k) x) (l .inv .todo (l .k) (le-refl (l .k)))) (refl)
-
-returns : tie.Need-returns Inv-loop μ-loop
-returns c = (going-end nan _ _ _ (c .before .loop .inv) (omega arith)) .0
+returns : tie.Need-returns
+returns c = c .before .before .before .before .tremolo-in .ensures
 
 pub tremolo-block-spec : {M : Type 1} → statement M
 tremolo-block-spec =
     tie.close
     (tie.spec
-    Inv-loop
-    μ-loop
-    loop-holds
+    slice-relend-prefix-tremolo-in
+    slice-aggregate-tremolo-in
+    tremolo-in-requires
     (λ c. search needs)
-    (λ c. search needs)
-    (λ c. search needs)
-    (λ c κs. search needs)
-    (λ c. search needs)
-    (λ c. search needs)
-    (λ c. search needs)
-    (λ c. search needs)
-    loop-again
     (λ c. search needs)
     returns)

@@ -6,9 +6,9 @@ use Rattle.proc_unit.proofs.compress.Tie as tie
 
 returns : tie.Need-returns
 returns c =
-    let b = c .before .before .compress-block in
-    λ ctl rs. rw (← c .before .before .before .before .before .before .before .before .before .before .number .ensures, ← c .before .before .before .before .before .before .before .before .before .number2 .ensures, ← c .before .before .before .before .before .before .before .before .max .ensures)
-    (compress-ran ctl _ _ (b .result) (c .before .before .before .before .before .before .before .before .before .before .before .before .before .before .pre .1) (b .ensures .0) (b .ensures .1))
+    let b = c .before .before .before .before .compress-block in
+    λ ctl rs. rw (← c .before .before .before .before .before .before .before .before .before .before .before .before .before .number .ensures, ← c .before .before .before .before .before .before .before .before .before .before .before .before .number2 .ensures, ← c .before .before .before .before .before .before .before .before .before .before .before .max .ensures)
+    (compress-ran ctl _ _ (b .result) (c .before .before .before .before .before .before .before .before .before .before .before .before .before .before .before .before .before .before .pre .1) (b .ensures .0) (b .ensures .1))
 
 pub compress-spec : {M : Type 1} → statement M
 compress-spec =
@@ -22,6 +22,7 @@ compress-spec =
     (λ c. search needs)
     (λ c. search needs)
     (λ c κs. search needs)
+    (λ c. search needs)
     (λ c. search needs)
     (λ c. search needs)
     (λ c. search needs)

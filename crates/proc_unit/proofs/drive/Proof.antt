@@ -9,10 +9,10 @@ use Rattle.proc_unit.proofs.drive.Tie as tie
 
 returns : tie.Need-returns
 returns c =
-    let l = c .before .before .before .before .before .before .before .before .load-drive in
-    let b = c .before .before .before .before .before .before .drive-block in
-    λ ctl rs. rw (← c .before .before .before .before .before .before .before .before .before .before .before .before .option .ensures, lt-ltb _ _ (c .before .before .before .before .before .before .before .before .before .before .if1 .taken), ← c .before .before .before .before .before .before .before .before .before .before .before .drive-shape-of .ensures)
-    (antialiased-ran ctl _ _ (l .result) (c .before .before .before .before .before .before .before .before .before .before .before .before .before .before .before .before .before .pre .1) (l .ensures) (b .ensures .0) (c .before .before .store-drive .ensures ∙ ap driveCells (b .ensures .1)))
+    let l = c .before .before .before .before .before .before .before .before .before .before .before .load-drive in
+    let b = c .before .before .before .before .before .before .before .before .drive-block in
+    λ ctl rs. rw (← c .before .before .before .before .before .before .before .before .before .before .before .before .before .before .before .option .ensures, lt-ltb _ _ (c .before .before .before .before .before .before .before .before .before .before .before .before .before .if1 .taken), ← c .before .before .before .before .before .before .before .before .before .before .before .before .before .before .drive-shape-of .ensures)
+    (antialiased-ran ctl _ _ (l .result) (c .before .before .before .before .before .before .before .before .before .before .before .before .before .before .before .before .before .before .before .before .before .pre .1) (l .ensures) (b .ensures .0) (c .before .before .store-drive .ensures ∙ ap driveCells (b .ensures .1)))
 
 returns-2 : tie.Need-returns-2
 returns-2 c =
@@ -28,6 +28,7 @@ drive-spec =
     (λ c κs. search needs)
     (λ c κs. search needs)
     (λ c κs. search needs)
+    (λ c. search needs)
     (λ c. search needs)
     (λ c. search needs)
     returns

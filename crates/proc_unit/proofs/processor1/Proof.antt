@@ -10,13 +10,13 @@ use Rattle.proc_unit.proofs.processor1.Tie as tie
 
 drive-requires : tie.Need-drive-requires
 drive-requires c κs =
-    let s = c .before .before .before .before .before .before .before in
-    (s .pre .0, s .pre .6 .drive (c .before .before .match .keys2), s .pre .7)
+    let s = c .before .before .before .before .before .before .before .before .before in
+    (s .pre .0, s .pre .6 .drive (c .before .before .before .match .keys2), s .pre .7, s .pre .8)
 
 filter-requires : tie.Need-filter-requires
 filter-requires c κs =
     let k = c .before .before .match in
-    let p = c .before .before .before .before .before .before .before .pre in
+    let p = c .before .before .before .before .before .before .before .before .pre in
     let w = is-filter _ (p .2) (p .1) (k .rest .0 .1) (p .3) (p .4) (p .5) (k .rest .1) in
     (p .0, p .6 .filter (w .0) (w .1), p .7)
 
@@ -27,12 +27,12 @@ returns c = λ ctl m rs. rw (c .before .before .before .before .match .keys1) (g
 returns-2 : tie.Need-returns-2
 unfolding processorUnit
 returns-2 c =
-    λ ctl m rs. rw (c .before .before .before .before .before .before .before .match .keys2) (c .before .before .before .before .drive .ensures ctl rs)
+    λ ctl m rs. rw (c .before .before .before .before .before .before .before .before .before .before .match .keys2) (c .before .before .before .before .before .before .drive .ensures ctl rs)
 
 returns-3 : tie.Need-returns-3
 unfolding processorUnit
 returns-3 c =
-    let s = c .before .before .before .before .before .before .before .before .before .before .before .before in
+    let s = c .before .before .before .before .before .before .before .before .before .before .before .before .before in
     let k = c .before .before .before .before .before .before .before .match in
     let p = s .pre in
     let w = is-filter _ (p .2) (p .1) (k .rest .0 .1) (p .3) (p .4) (p .5) (k .rest .1) in
@@ -47,6 +47,7 @@ processor1-spec =
     filter-requires
     (λ c. search needs)
     returns
+    (λ c. search needs)
     (λ c. search needs)
     (λ c. search needs)
     returns-2

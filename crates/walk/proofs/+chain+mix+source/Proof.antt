@@ -1,5 +1,5 @@
 -- `walk::source`, `walk::chain` and `walk::mix` meet their contracts: N minus the record falls round the cycle. Assumes nothing.
-use mathlib.Core.Path.{_≡_, sym, ap, _∙_}
+use mathlib.Core.Path.{_≡_, refl, sym, ap, _∙_}
 use Prim.Native.Nat.{_-_, _+_, _*_}
 use native.Mathlib.Omega.{arith}
 use lib.ListN.{length}
@@ -9,7 +9,7 @@ use Rattle.layout.specs.Good.{good}
 use Rattle.layout.specs.Needs.{scratchFrom}
 use Rattle.layout.specs.Laws.{playable}
 use Rattle.walk.specs.Nodes.{chain-nodes, fold-nodes, fold-scratch}
-use Rattle.walk.specs.Walk.{ready-same, scratch-same, Chaining, chain-start, chain-again, chain-end, Mixing, mix-start, mix-again, mix-end, sourced-chain, sourced-leaf, sourced-mix, fold-is, chain-is, left, left-less}
+use Rattle.walk.specs.Walk.{ready-same, scratch-same, Chaining, chain-start, chain-again, chain-end, Mixing, mix-start, mix-again, mix-end, sourced-chain, sourced-leaf, sourced-mix, fold-is, chain-is, leaf-left, left, left-less}
 use borrow.Author.Needs.{needs}
 use Prim.Native.Nat.{ℕ, _<_}
 use borrow.Fn.Kinds.{In}
@@ -61,33 +61,64 @@ source-at t = and 15 source-kinds.ps (is 15 source-kinds.ps μ-source t) source.
 abbrev source-below : ℕ → In 15 source-kinds.ps
 source-below t = and 15 source-kinds.ps (falls 15 source-kinds.ps _<_ μ-source t) source.Pre
 
+-- what each is asked by those that it calls, and what it learns of them
+abbrev chain-claims : ℕ → chain-lts.Claims
+chain-claims t = (
+  kind-at-reads.Asked,
+  kind-at-reads.Learnt,
+  is-fold-reads.Asked,
+  is-fold-reads.Learnt,
+  source-below t,
+  source.Post,
+  leaf-reads.Asked,
+  leaf-reads.Learnt,
+)
+
+abbrev mix-claims : ℕ → mix-lts.Claims
+mix-claims t = (
+  kind-at-reads.Asked,
+  kind-at-reads.Learnt,
+  fill-block-reads.Asked,
+  fill-block-reads.Learnt,
+  is-fold-reads.Asked,
+  is-fold-reads.Learnt,
+  source-below t,
+  source.Post,
+  scratch-join-reads.Asked,
+  scratch-join-reads.Learnt,
+  leaf-reads.Asked,
+  leaf-reads.Learnt,
+)
+
+abbrev source-claims : ℕ → source-lts.Claims
+source-claims t = (
+  kind-at-reads.Asked,
+  kind-at-reads.Learnt,
+  is-fold-reads.Asked,
+  is-fold-reads.Learnt,
+  empty-reads.Asked,
+  empty-reads.Learnt,
+  scratch-fill-reads.Asked,
+  scratch-fill-reads.Learnt,
+  mix-below t,
+  mix.Post,
+  scratch-take-reads.Asked,
+  scratch-take-reads.Learnt,
+  chain-below t,
+  chain.Post,
+  leaf-reads.Asked,
+  leaf-reads.Learnt,
+)
+
 abbrev chain-Inv-loop : chain-lts.InvT-loop
 chain-Inv-loop sheet count nexts acts begins afters places words blocks i c out₀ v₀ w₀ pitch cells₀ regs₀ scr₀ j₀ out v w cells regs scr j = Chaining sheet i c out₀ cells₀ regs₀ scr₀ (length v₀) (length w₀) out cells regs scr (length v) (length w) j
 
 abbrev chain-μ-loop : chain-lts.MeasureT-loop
 chain-μ-loop sheet count nexts acts begins afters places words blocks i c out₀ v₀ w₀ pitch cells₀ regs₀ scr₀ j₀ out v w cells regs scr j = left sheet j
 
--- src/lib.rt:269:17
-chain-mul-j :
-    (t : ℕ) →
-    chain-lts.Need-mul-j
-    (source-below t, source.Post)
-    (chain-at t)
-    chain.Post
-    chain-Inv-loop
-    chain-μ-loop
-chain-mul-j t c = search needs
-
--- src/lib.rt:270:5
-chain-loop-holds :
-    (t : ℕ) →
-    chain-lts.Need-loop-holds
-    (source-below t, source.Post)
-    (chain-at t)
-    chain.Post
-    chain-Inv-loop
-    chain-μ-loop
-chain-loop-holds t c = let s = (c .before .before .before .before .before .before .before .before .before .before .before .before .before .before .before .before) in
+chain-loop-holds : (t : ℕ) → chain-lts.Need-loop-holds (chain-claims t) (chain-at t) chain.Post chain-Inv-loop chain-μ-loop
+chain-loop-holds t c =
+    let s = c .before .before .before .before .before .before .before .before .before .before .before .before .before .before .before .before in
     let R = s .pre .1 .0 in
     let vo = R .voiced in
     let S = s .args .sheet .now in
@@ -97,16 +128,9 @@ chain-loop-holds t c = let s = (c .before .before .before .before .before .befor
     let e = chain-nodes (kind S i) (s .pre .1 .4) in
     rw (R .begin-at .at i hi) (chain-start vo i h e (s .args .c) _ _ _ _ _ _ (s .pre .1 .2))
 
--- src/lib.rt:271:9
-chain-source-requires :
-    (t : ℕ) →
-    chain-lts.Need-source-requires
-    (source-below t, source.Post)
-    (chain-at t)
-    chain.Post
-    chain-Inv-loop
-    chain-μ-loop
-chain-source-requires t c κs = let s = (c .before .before .before .before .before .before .before .before .before .before .before .before .before .before .before .before .before .before .before .before .before .before .before .before) in
+chain-kind-at-requires : (t : ℕ) → chain-lts.Need-kind-at-requires (chain-claims t) (chain-at t) chain.Post chain-Inv-loop chain-μ-loop
+chain-kind-at-requires t c κs =
+    let s = c .before .before .before .before .before .before .before .before .before .before .before .before .before .before .before .before .before .before in
     let R = s .pre .1 .0 in
     let vo = R .voiced in
     let S = s .args .sheet .now in
@@ -114,22 +138,31 @@ chain-source-requires t c κs = let s = (c .before .before .before .before .befo
     let hi = s .pre .1 .3 in
     let h : i < countOf S = omega (arith, hi, vo .passed .count) in
     let e = chain-nodes (kind S i) (s .pre .1 .4) in
-    let L = (c .before .before .before .before .before .before .before .loop) in
+    let L = c .before .loop in
     let l = L .inv in
-    let t = (c .before .before .before .before .before .before .loop-test) .taken in
+    let t = c .loop-test .taken in
+    let hj : L .j < s .args .count = omega (arith, l .inside, vo .passed .count) in
+    omega (arith, hj, vo .passed .long)
+
+chain-source-requires : (t : ℕ) → chain-lts.Need-source-requires (chain-claims t) (chain-at t) chain.Post chain-Inv-loop chain-μ-loop
+chain-source-requires t c κs =
+    let s = c .before .before .before .before .before .before .before .before .before .before .before .before .before .before .before .before .before .before .before .before .before .before .before .before .before .before .before in
+    let R = s .pre .1 .0 in
+    let vo = R .voiced in
+    let S = s .args .sheet .now in
+    let i = s .args .i in
+    let hi = s .pre .1 .3 in
+    let h : i < countOf S = omega (arith, hi, vo .passed .count) in
+    let e = chain-nodes (kind S i) (s .pre .1 .4) in
+    let L = c .before .before .before .before .before .before .before .before .before .before .loop in
+    let l = L .inv in
+    let t = c .before .before .before .before .before .before .before .before .before .loop-test .taken in
     let hj : L .j < s .args .count = omega (arith, l .inside, vo .passed .count) in
     (omega (arith, s .pre .0, l .above t, hj), (ready-same R (l .outs) (l .first-buffer) (l .second-buffer), scratch-same (s .pre .1 .1) (l .scr), l .sound, hj, l .member t .is))
 
--- src/lib.rt:275:13
-chain-mul-j-2 :
-    (t : ℕ) →
-    chain-lts.Need-mul-j-2
-    (source-below t, source.Post)
-    (chain-at t)
-    chain.Post
-    chain-Inv-loop
-    chain-μ-loop
-chain-mul-j-2 t c = let s = (c .before .before .before .before .before .before .before .before .before .before .before .before .before .before .before .before .before .before .before .before .before .before .before .before .before .before .before .before .before .before .before .before .before .before .before .before .before) in
+chain-mul-j-2 : (t : ℕ) → chain-lts.Need-mul-j-2 (chain-claims t) (chain-at t) chain.Post chain-Inv-loop chain-μ-loop
+chain-mul-j-2 t c =
+    let s = c .before .before .before .before .before .before .before .before .before .before .before .before .before .before .before .before .before .before .before .before .before .before .before .before .before .before .before .before .before .before .before .before .before .before .before .before .before .before .before .before in
     let R = s .pre .1 .0 in
     let vo = R .voiced in
     let S = s .args .sheet .now in
@@ -137,18 +170,15 @@ chain-mul-j-2 t c = let s = (c .before .before .before .before .before .before .
     let hi = s .pre .1 .3 in
     let h : i < countOf S = omega (arith, hi, vo .passed .count) in
     let e = chain-nodes (kind S i) (s .pre .1 .4) in
-    let L = (c .before .before .before .before .before .before .before .before .before .before .before .before .before .before .before .before .before .before .before .before .loop) in
+    let L = c .before .before .before .before .before .before .before .before .before .before .before .before .before .before .before .before .before .before .before .before .before .before .before .loop in
     let l = L .inv in
-    let t = (c .before .before .before .before .before .before .before .before .before .before .before .before .before .before .before .before .before .before .before .loop-test) .taken in
+    let t = c .before .before .before .before .before .before .before .before .before .before .before .before .before .before .before .before .before .before .before .before .before .before .loop-test .taken in
     let hj : L .j < s .args .count = omega (arith, l .inside, vo .passed .count) in
     omega (arith, hj, R .after-at .long)
 
--- src/lib.rt:275:13
-chain-shared-slice-read-j-2 : (t : ℕ) → chain-lts.Need-shared-slice-read-j-2 (
-  source-below t,
-  source.Post,
-) (chain-at t) chain.Post chain-Inv-loop chain-μ-loop
-chain-shared-slice-read-j-2 t c = let s = (c .before .before .before .before .before .before .before .before .before .before .before .before .before .before .before .before .before .before .before .before .before .before .before .before .before .before .before .before .before .before .before .before .before .before .before .before .before .before) in
+chain-shared-slice-read-j-2 : (t : ℕ) → chain-lts.Need-shared-slice-read-j-2 (chain-claims t) (chain-at t) chain.Post chain-Inv-loop chain-μ-loop
+chain-shared-slice-read-j-2 t c =
+    let s = c .before .before .before .before .before .before .before .before .before .before .before .before .before .before .before .before .before .before .before .before .before .before .before .before .before .before .before .before .before .before .before .before .before .before .before .before .before .before .before .before .before in
     let R = s .pre .1 .0 in
     let vo = R .voiced in
     let S = s .args .sheet .now in
@@ -156,22 +186,15 @@ chain-shared-slice-read-j-2 t c = let s = (c .before .before .before .before .be
     let hi = s .pre .1 .3 in
     let h : i < countOf S = omega (arith, hi, vo .passed .count) in
     let e = chain-nodes (kind S i) (s .pre .1 .4) in
-    let L = (c .before .before .before .before .before .before .before .before .before .before .before .before .before .before .before .before .before .before .before .before .before .loop) in
+    let L = c .before .before .before .before .before .before .before .before .before .before .before .before .before .before .before .before .before .before .before .before .before .before .before .before .loop in
     let l = L .inv in
-    let t = (c .before .before .before .before .before .before .before .before .before .before .before .before .before .before .before .before .before .before .before .before .loop-test) .taken in
+    let t = c .before .before .before .before .before .before .before .before .before .before .before .before .before .before .before .before .before .before .before .before .before .before .before .loop-test .taken in
     let hj : L .j < s .args .count = omega (arith, l .inside, vo .passed .count) in
     omega (arith, hj, R .after-at .long)
 
--- src/lib.rt:270:5
-chain-loop-less :
-    (t : ℕ) →
-    chain-lts.Need-loop-less
-    (source-below t, source.Post)
-    (chain-at t)
-    chain.Post
-    chain-Inv-loop
-    chain-μ-loop
-chain-loop-less t c = let s = (c .before .before .before .before .before .before .before .before .before .before .before .before .before .before .before .before .before .before .before .before .before .before .before .before .before .before .before .before .before .before .before .before .before .before .before .before .before .before) in
+chain-loop-less : (t : ℕ) → chain-lts.Need-loop-less (chain-claims t) (chain-at t) chain.Post chain-Inv-loop chain-μ-loop
+chain-loop-less t c =
+    let s = c .before .before .before .before .before .before .before .before .before .before .before .before .before .before .before .before .before .before .before .before .before .before .before .before .before .before .before .before .before .before .before .before .before .before .before .before .before .before .before .before .before in
     let R = s .pre .1 .0 in
     let vo = R .voiced in
     let S = s .args .sheet .now in
@@ -179,22 +202,15 @@ chain-loop-less t c = let s = (c .before .before .before .before .before .before
     let hi = s .pre .1 .3 in
     let h : i < countOf S = omega (arith, hi, vo .passed .count) in
     let e = chain-nodes (kind S i) (s .pre .1 .4) in
-    let L = (c .before .before .before .before .before .before .before .before .before .before .before .before .before .before .before .before .before .before .before .before .before .loop) in
+    let L = c .before .before .before .before .before .before .before .before .before .before .before .before .before .before .before .before .before .before .before .before .before .before .before .before .loop in
     let l = L .inv in
-    let t = (c .before .before .before .before .before .before .before .before .before .before .before .before .before .before .before .before .before .before .before .before .loop-test) .taken in
+    let t = c .before .before .before .before .before .before .before .before .before .before .before .before .before .before .before .before .before .before .before .before .before .before .before .loop-test .taken in
     let hj : L .j < s .args .count = omega (arith, l .inside, vo .passed .count) in
     rw (R .after-at .at (L .j) hj) (left-less (vo .passed) (L .j) t (l .inside))
 
--- src/lib.rt:270:5
-chain-loop-again :
-    (t : ℕ) →
-    chain-lts.Need-loop-again
-    (source-below t, source.Post)
-    (chain-at t)
-    chain.Post
-    chain-Inv-loop
-    chain-μ-loop
-chain-loop-again t c = let s = (c .before .before .before .before .before .before .before .before .before .before .before .before .before .before .before .before .before .before .before .before .before .before .before .before .before .before .before .before .before .before .before .before .before .before .before .before .before .before) in
+chain-loop-again : (t : ℕ) → chain-lts.Need-loop-again (chain-claims t) (chain-at t) chain.Post chain-Inv-loop chain-μ-loop
+chain-loop-again t c =
+    let s = c .before .before .before .before .before .before .before .before .before .before .before .before .before .before .before .before .before .before .before .before .before .before .before .before .before .before .before .before .before .before .before .before .before .before .before .before .before .before .before .before .before in
     let R = s .pre .1 .0 in
     let vo = R .voiced in
     let S = s .args .sheet .now in
@@ -202,88 +218,16 @@ chain-loop-again t c = let s = (c .before .before .before .before .before .befor
     let hi = s .pre .1 .3 in
     let h : i < countOf S = omega (arith, hi, vo .passed .count) in
     let e = chain-nodes (kind S i) (s .pre .1 .4) in
-    let L = (c .before .before .before .before .before .before .before .before .before .before .before .before .before .before .before .before .before .before .before .before .before .loop) in
+    let L = c .before .before .before .before .before .before .before .before .before .before .before .before .before .before .before .before .before .before .before .before .before .before .before .before .loop in
     let l = L .inv in
-    let t = (c .before .before .before .before .before .before .before .before .before .before .before .before .before .before .before .before .before .before .before .before .loop-test) .taken in
+    let t = c .before .before .before .before .before .before .before .before .before .before .before .before .before .before .before .before .before .before .before .before .before .before .before .loop-test .taken in
     let hj : L .j < s .args .count = omega (arith, l .inside, vo .passed .count) in
-    rw (R .after-at .at (L .j) hj) (chain-again vo i h e (s .args .c) _ _ _ _ _ _ _ _ _ _ _ _ (L .j) _ _ _ _ _ _ l t ((c .before .before .before .before .before .before .before .before .before .before .before .before .before .source) .ensures) ((c .before .before .before .before .before .before .before .before .before .before .before .before .before .source) .kept .1 .1 .1 .1 .1 .1 .1 .1 .1 .1 .1 .0) ((c .before .before .before .before .before .before .before .before .before .before .before .before .before .source) .kept .1 .1 .1 .1 .1 .1 .1 .1 .1 .1 .1 .1 .1 .1 .1 .0) ((c .before .before .before .before .before .before .before .before .before .before .before .before .before .source) .kept .1 .1 .1 .1 .1 .1 .1 .1 .1 .1 .1 .1 .1 .1 .1 .1 .0) ((c .before .before .before .before .before .before .before .before .before .before .before .before .before .source) .kept .1 .1 .1 .1 .1 .1 .1 .1 .1 .1 .1 .1 .1 .1 .1 .1 .1 .0) ((c .before .before .before .before .before .before .before .before .before .before .before .before .before .source) .kept .1 .1 .1 .1 .1 .1 .1 .1 .1 .1 .1 .1 .0) ((c .before .before .before .before .before .before .before .before .before .before .before .before .before .source) .kept .1 .1 .1 .1 .1 .1 .1 .1 .1 .1 .1 .1 .1 .0))
+    let r = c .before .before .before .before .before .before .before .before .before .before .before .before .before .source in
+    rw (R .after-at .at (L .j) hj) (chain-again vo i h e (s .args .c) _ _ _ _ _ _ _ _ _ _ _ _ (L .j) _ _ _ _ _ _ l t (r .ensures) (r .kept .1 .1 .1 .1 .1 .1 .1 .1 .1 .1 .1 .0) (r .kept .1 .1 .1 .1 .1 .1 .1 .1 .1 .1 .1 .1 .1 .1 .1 .0) (r .kept .1 .1 .1 .1 .1 .1 .1 .1 .1 .1 .1 .1 .1 .1 .1 .1 .0) (r .kept .1 .1 .1 .1 .1 .1 .1 .1 .1 .1 .1 .1 .1 .1 .1 .1 .1 .0) (r .kept .1 .1 .1 .1 .1 .1 .1 .1 .1 .1 .1 .1 .0) (r .kept .1 .1 .1 .1 .1 .1 .1 .1 .1 .1 .1 .1 .1 .0))
 
--- src/lib.rt:246:1
-chain-same-length :
-    (t : ℕ) →
-    chain-lts.Need-same-length
-    (source-below t, source.Post)
-    (chain-at t)
-    chain.Post
-    chain-Inv-loop
-    chain-μ-loop
-chain-same-length t c = search needs
-
--- src/lib.rt:246:1
-chain-same-length-2 :
-    (t : ℕ) →
-    chain-lts.Need-same-length-2
-    (source-below t, source.Post)
-    (chain-at t)
-    chain.Post
-    chain-Inv-loop
-    chain-μ-loop
-chain-same-length-2 t c = search needs
-
--- src/lib.rt:246:1
-chain-same-length-3 :
-    (t : ℕ) →
-    chain-lts.Need-same-length-3
-    (source-below t, source.Post)
-    (chain-at t)
-    chain.Post
-    chain-Inv-loop
-    chain-μ-loop
-chain-same-length-3 t c = search needs
-
--- src/lib.rt:246:1
-chain-same-length-4 :
-    (t : ℕ) →
-    chain-lts.Need-same-length-4
-    (source-below t, source.Post)
-    (chain-at t)
-    chain.Post
-    chain-Inv-loop
-    chain-μ-loop
-chain-same-length-4 t c = search needs
-
--- src/lib.rt:246:1
-chain-same-length-5 :
-    (t : ℕ) →
-    chain-lts.Need-same-length-5
-    (source-below t, source.Post)
-    (chain-at t)
-    chain.Post
-    chain-Inv-loop
-    chain-μ-loop
-chain-same-length-5 t c = search needs
-
--- src/lib.rt:246:1
-chain-same-length-6 :
-    (t : ℕ) →
-    chain-lts.Need-same-length-6
-    (source-below t, source.Post)
-    (chain-at t)
-    chain.Post
-    chain-Inv-loop
-    chain-μ-loop
-chain-same-length-6 t c = search needs
-
--- src/lib.rt:246:1
-chain-returns :
-    (t : ℕ) →
-    chain-lts.Need-returns
-    (source-below t, source.Post)
-    (chain-at t)
-    chain.Post
-    chain-Inv-loop
-    chain-μ-loop
-chain-returns t c = let s = (c .before .before .before .before .before .before .before .before .before .before .before .before .before .before .before .before .before .before) in
+chain-leaf-requires : (t : ℕ) → chain-lts.Need-leaf-requires (chain-claims t) (chain-at t) chain.Post chain-Inv-loop chain-μ-loop
+chain-leaf-requires t c κs =
+    let s = c .before .before .before .before .before .before .before .before .before .before .before .before .before .before .before .before .before .before .before .before .before .before .before .before .before .before in
     let R = s .pre .1 .0 in
     let vo = R .voiced in
     let S = s .args .sheet .now in
@@ -291,7 +235,89 @@ chain-returns t c = let s = (c .before .before .before .before .before .before .
     let hi = s .pre .1 .3 in
     let h : i < countOf S = omega (arith, hi, vo .passed .count) in
     let e = chain-nodes (kind S i) (s .pre .1 .4) in
-    chain-end vo i (s .args .c) _ _ _ _ _ _ _ _ _ _ _ _ ((c .before .loop) .j) e ((c .before .loop) .inv) ((c .loop-test) .left)
+    let L = c .before .before .before .before .before .before .before .before .before .loop in
+    let l = L .inv in
+    let t = c .before .before .before .before .before .before .before .before .loop-test .taken in
+    let hj : L .j < s .args .count = omega (arith, l .inside, vo .passed .count) in
+    let f = leaf-left (c .before .before .before .before .before .before .before .kind-at .ensures) (c .before .before .before .before .before .before .is-fold .ensures) (c .before .before .before .before .before .if1 .left) in
+    (ready-same R (l .outs) (l .first-buffer) (l .second-buffer), hj, l .member t .is, f .0, f .1, l .sound)
+
+chain-mul-j-3 : (t : ℕ) → chain-lts.Need-mul-j-3 (chain-claims t) (chain-at t) chain.Post chain-Inv-loop chain-μ-loop
+chain-mul-j-3 t c =
+    let s = c .before .before .before .before .before .before .before .before .before .before .before .before .before .before .before .before .before .before .before .before .before .before .before .before .before .before .before .before .before .before .before .before .before .before .before .before .before in
+    let R = s .pre .1 .0 in
+    let vo = R .voiced in
+    let S = s .args .sheet .now in
+    let i = s .args .i in
+    let hi = s .pre .1 .3 in
+    let h : i < countOf S = omega (arith, hi, vo .passed .count) in
+    let e = chain-nodes (kind S i) (s .pre .1 .4) in
+    let L = c .before .before .before .before .before .before .before .before .before .before .before .before .before .before .before .before .before .before .before .before .loop in
+    let l = L .inv in
+    let t = c .before .before .before .before .before .before .before .before .before .before .before .before .before .before .before .before .before .before .before .loop-test .taken in
+    let hj : L .j < s .args .count = omega (arith, l .inside, vo .passed .count) in
+    omega (arith, hj, R .after-at .long)
+
+chain-shared-slice-read-j-3 : (t : ℕ) → chain-lts.Need-shared-slice-read-j-3 (chain-claims t) (chain-at t) chain.Post chain-Inv-loop chain-μ-loop
+chain-shared-slice-read-j-3 t c =
+    let s = c .before .before .before .before .before .before .before .before .before .before .before .before .before .before .before .before .before .before .before .before .before .before .before .before .before .before .before .before .before .before .before .before .before .before .before .before .before .before in
+    let R = s .pre .1 .0 in
+    let vo = R .voiced in
+    let S = s .args .sheet .now in
+    let i = s .args .i in
+    let hi = s .pre .1 .3 in
+    let h : i < countOf S = omega (arith, hi, vo .passed .count) in
+    let e = chain-nodes (kind S i) (s .pre .1 .4) in
+    let L = c .before .before .before .before .before .before .before .before .before .before .before .before .before .before .before .before .before .before .before .before .before .loop in
+    let l = L .inv in
+    let t = c .before .before .before .before .before .before .before .before .before .before .before .before .before .before .before .before .before .before .before .before .loop-test .taken in
+    let hj : L .j < s .args .count = omega (arith, l .inside, vo .passed .count) in
+    omega (arith, hj, R .after-at .long)
+
+chain-loop-less-2 : (t : ℕ) → chain-lts.Need-loop-less-2 (chain-claims t) (chain-at t) chain.Post chain-Inv-loop chain-μ-loop
+chain-loop-less-2 t c =
+    let s = c .before .before .before .before .before .before .before .before .before .before .before .before .before .before .before .before .before .before .before .before .before .before .before .before .before .before .before .before .before .before .before .before .before .before .before .before .before .before in
+    let R = s .pre .1 .0 in
+    let vo = R .voiced in
+    let S = s .args .sheet .now in
+    let i = s .args .i in
+    let hi = s .pre .1 .3 in
+    let h : i < countOf S = omega (arith, hi, vo .passed .count) in
+    let e = chain-nodes (kind S i) (s .pre .1 .4) in
+    let L = c .before .before .before .before .before .before .before .before .before .before .before .before .before .before .before .before .before .before .before .before .before .loop in
+    let l = L .inv in
+    let t = c .before .before .before .before .before .before .before .before .before .before .before .before .before .before .before .before .before .before .before .before .loop-test .taken in
+    let hj : L .j < s .args .count = omega (arith, l .inside, vo .passed .count) in
+    rw (R .after-at .at (L .j) hj) (left-less (vo .passed) (L .j) t (l .inside))
+
+chain-loop-again-2 : (t : ℕ) → chain-lts.Need-loop-again-2 (chain-claims t) (chain-at t) chain.Post chain-Inv-loop chain-μ-loop
+chain-loop-again-2 t c =
+    let s = c .before .before .before .before .before .before .before .before .before .before .before .before .before .before .before .before .before .before .before .before .before .before .before .before .before .before .before .before .before .before .before .before .before .before .before .before .before .before in
+    let R = s .pre .1 .0 in
+    let vo = R .voiced in
+    let S = s .args .sheet .now in
+    let i = s .args .i in
+    let hi = s .pre .1 .3 in
+    let h : i < countOf S = omega (arith, hi, vo .passed .count) in
+    let e = chain-nodes (kind S i) (s .pre .1 .4) in
+    let L = c .before .before .before .before .before .before .before .before .before .before .before .before .before .before .before .before .before .before .before .before .before .loop in
+    let l = L .inv in
+    let t = c .before .before .before .before .before .before .before .before .before .before .before .before .before .before .before .before .before .before .before .before .loop-test .taken in
+    let hj : L .j < s .args .count = omega (arith, l .inside, vo .passed .count) in
+    let r = c .before .before .before .before .before .before .before .before .before .before .before .leaf in
+    rw (R .after-at .at (L .j) hj) (chain-again vo i h e (s .args .c) _ _ _ _ _ _ _ _ _ _ _ _ (L .j) _ _ _ _ _ _ l t (sourced-leaf vo (L .j) (s .args .c) _ _ _ _ _ _ _ (r .ensures)) (r .kept .1 .1 .1 .1 .1 .1 .1 .1 .1 .1 .0) (r .kept .1 .1 .1 .1 .1 .1 .1 .1 .1 .1 .1 .1 .1 .1 .0) (r .kept .1 .1 .1 .1 .1 .1 .1 .1 .1 .1 .1 .1 .1 .1 .1 .0) refl (r .kept .1 .1 .1 .1 .1 .1 .1 .1 .1 .1 .1 .0) (r .kept .1 .1 .1 .1 .1 .1 .1 .1 .1 .1 .1 .1 .0))
+
+chain-returns : (t : ℕ) → chain-lts.Need-returns (chain-claims t) (chain-at t) chain.Post chain-Inv-loop chain-μ-loop
+chain-returns t c =
+    let s = c .before .before .before .before .before .before .before .before .before .before .before .before .before .before .before .before .before .before in
+    let R = s .pre .1 .0 in
+    let vo = R .voiced in
+    let S = s .args .sheet .now in
+    let i = s .args .i in
+    let hi = s .pre .1 .3 in
+    let h : i < countOf S = omega (arith, hi, vo .passed .count) in
+    let e = chain-nodes (kind S i) (s .pre .1 .4) in
+    chain-end vo i (s .args .c) _ _ _ _ _ _ _ _ _ _ _ _ (c .before .loop .j) e (c .before .loop .inv) (c .loop-test .left)
 
 abbrev mix-Inv-loop : mix-lts.InvT-loop
 mix-Inv-loop sheet count nexts acts begins afters places words blocks i c out₀ v₀ w₀ pitch cells₀ regs₀ scr₀ k at j₀ out v w cells regs scr j = (k ≡ kind sheet i) × (at ≡ scratchFrom sheet i) × Mixing sheet i c out₀ cells₀ regs₀ scr₀ (length v₀) (length w₀) out cells regs scr (length v) (length w) j
@@ -299,35 +325,14 @@ mix-Inv-loop sheet count nexts acts begins afters places words blocks i c out₀
 abbrev mix-μ-loop : mix-lts.MeasureT-loop
 mix-μ-loop sheet count nexts acts begins afters places words blocks i c out₀ v₀ w₀ pitch cells₀ regs₀ scr₀ k at j₀ out v w cells regs scr j = left sheet j
 
--- src/lib.rt:303:9
-mix-kind-at-requires : (t : ℕ) → mix-lts.Need-kind-at-requires (
-  kind-at-reads.Asked,
-  kind-at-reads.Learnt,
-  fill-block-reads.Asked,
-  fill-block-reads.Learnt,
-  source-below t,
-  source.Post,
-  scratch-join-reads.Asked,
-  scratch-join-reads.Learnt,
-) (mix-at t) mix.Post mix-Inv-loop mix-μ-loop
-mix-kind-at-requires t c κs = let s = (c .before .before .before .before .before .before .before .before .before .before .before .before .before .before .before) in
-    let R = s .pre .1 .0 in
-    let vo = R .voiced in
-    let hi = s .pre .1 .3 in
-    omega (arith, hi, vo .passed .long)
+mix-kind-at-requires : (t : ℕ) → mix-lts.Need-kind-at-requires (mix-claims t) (mix-at t) mix.Post mix-Inv-loop mix-μ-loop
+mix-kind-at-requires t c κs =
+    let s = c .before .before .before .before .before .before .before .before .before .before .before .before .before .before .before in
+    omega (arith, s .pre .1 .3, s .pre .1 .0 .voiced .passed .long)
 
--- src/lib.rt:306:5
-mix-loop-holds : (t : ℕ) → mix-lts.Need-loop-holds (
-  kind-at-reads.Asked,
-  kind-at-reads.Learnt,
-  fill-block-reads.Asked,
-  fill-block-reads.Learnt,
-  source-below t,
-  source.Post,
-  scratch-join-reads.Asked,
-  scratch-join-reads.Learnt,
-) (mix-at t) mix.Post mix-Inv-loop mix-μ-loop
-mix-loop-holds t c = let s = (c .before .before .before .before .before .before .before .before .before .before .before .before .before .before .before .before .before .before) in
+mix-loop-holds : (t : ℕ) → mix-lts.Need-loop-holds (mix-claims t) (mix-at t) mix.Post mix-Inv-loop mix-μ-loop
+mix-loop-holds t c =
+    let s = c .before .before .before .before .before .before .before .before .before .before .before .before .before .before .before .before .before .before in
     let R = s .pre .1 .0 in
     let vo = R .voiced in
     let S = s .args .sheet .now in
@@ -335,20 +340,11 @@ mix-loop-holds t c = let s = (c .before .before .before .before .before .before 
     let hi = s .pre .1 .3 in
     let h : i < countOf S = omega (arith, hi, vo .passed .count) in
     let e = fold-nodes (kind S i) (s .pre .1 .4) in
-    ((c .before .before .kind-at) .ensures, s .pre .1 .1 .scratch-at .at i (omega (arith, hi)), rw (R .begin-at .at i hi) (mix-start vo i h e (s .args .c) _ _ _ _ _ _ (s .pre .1 .2)))
+    (c .before .before .kind-at .ensures, s .pre .1 .1 .scratch-at .at i (omega (arith, hi)), rw (R .begin-at .at i hi) (mix-start vo i h e (s .args .c) _ _ _ _ _ _ (s .pre .1 .2)))
 
--- src/lib.rt:308:9
-mix-source-requires : (t : ℕ) → mix-lts.Need-source-requires (
-  kind-at-reads.Asked,
-  kind-at-reads.Learnt,
-  fill-block-reads.Asked,
-  fill-block-reads.Learnt,
-  source-below t,
-  source.Post,
-  scratch-join-reads.Asked,
-  scratch-join-reads.Learnt,
-) (mix-at t) mix.Post mix-Inv-loop mix-μ-loop
-mix-source-requires t c κs = let s = (c .before .before .before .before .before .before .before .before .before .before .before .before .before .before .before .before .before .before .before .before .before .before .before .before .before .before .before .before .before .before) in
+mix-kind-at-requires-2 : (t : ℕ) → mix-lts.Need-kind-at-requires-2 (mix-claims t) (mix-at t) mix.Post mix-Inv-loop mix-μ-loop
+mix-kind-at-requires-2 t c κs =
+    let s = c .before .before .before .before .before .before .before .before .before .before .before .before .before .before .before .before .before .before .before .before .before .before .before .before in
     let R = s .pre .1 .0 in
     let vo = R .voiced in
     let S = s .args .sheet .now in
@@ -356,24 +352,15 @@ mix-source-requires t c κs = let s = (c .before .before .before .before .before
     let hi = s .pre .1 .3 in
     let h : i < countOf S = omega (arith, hi, vo .passed .count) in
     let e = fold-nodes (kind S i) (s .pre .1 .4) in
-    let L = (c .before .before .before .before .before .before .before .before .before .before .before .loop) in
+    let L = c .before .before .before .before .before .loop in
     let l = L .inv .2 in
-    let t = (c .before .before .before .before .before .before .before .before .before .before .loop-test) .taken in
+    let t = c .before .before .before .before .loop-test .taken in
     let hj : L .j < s .args .count = omega (arith, l .inside, vo .passed .count) in
-    (omega (arith, s .pre .0, l .above t, hj), (ready-same R ((c .before .before .before .before .before .before .before .before .fill-block) .kept .0 ∙ l .outs) (l .first-buffer) (l .second-buffer), scratch-same (s .pre .1 .1) (l .scr), l .sound, hj, l .member t .is))
+    omega (arith, hj, vo .passed .long)
 
--- src/lib.rt:312:9
-mix-scratch-join-requires : (t : ℕ) → mix-lts.Need-scratch-join-requires (
-  kind-at-reads.Asked,
-  kind-at-reads.Learnt,
-  fill-block-reads.Asked,
-  fill-block-reads.Learnt,
-  source-below t,
-  source.Post,
-  scratch-join-reads.Asked,
-  scratch-join-reads.Learnt,
-) (mix-at t) mix.Post mix-Inv-loop mix-μ-loop
-mix-scratch-join-requires t c κs = let s = (c .before .before .before .before .before .before .before .before .before .before .before .before .before .before .before .before .before .before .before .before .before .before .before .before .before .before .before .before .before .before .before .before .before .before .before .before .before .before .before .before .before .before .before .before .before) in
+mix-source-requires : (t : ℕ) → mix-lts.Need-source-requires (mix-claims t) (mix-at t) mix.Post mix-Inv-loop mix-μ-loop
+mix-source-requires t c κs =
+    let s = c .before .before .before .before .before .before .before .before .before .before .before .before .before .before .before .before .before .before .before .before .before .before .before .before .before .before .before .before .before .before .before .before .before in
     let R = s .pre .1 .0 in
     let vo = R .voiced in
     let S = s .args .sheet .now in
@@ -381,24 +368,15 @@ mix-scratch-join-requires t c κs = let s = (c .before .before .before .before .
     let hi = s .pre .1 .3 in
     let h : i < countOf S = omega (arith, hi, vo .passed .count) in
     let e = fold-nodes (kind S i) (s .pre .1 .4) in
-    let L = (c .before .before .before .before .before .before .before .before .before .before .before .before .before .before .before .before .before .before .before .before .before .before .before .before .before .before .loop) in
+    let L = c .before .before .before .before .before .before .before .before .before .before .before .before .before .before .loop in
     let l = L .inv .2 in
-    let t = (c .before .before .before .before .before .before .before .before .before .before .before .before .before .before .before .before .before .before .before .before .before .before .before .before .before .loop-test) .taken in
+    let t = c .before .before .before .before .before .before .before .before .before .before .before .before .before .loop-test .taken in
     let hj : L .j < s .args .count = omega (arith, l .inside, vo .passed .count) in
-    omega (arith, playable S (vo .passed .passed) .scratch-end i h, L .inv .1, s .pre .1 .1 .room, R .short, s .pre .1 .5, l .scr, l .outs, (c .before .before .before .before .before .before .before .before .before .before .before .before .before .before .source) .kept .1 .1 .1 .1 .1 .1 .1 .1 .1 .1 .1 .1 .1 .1 .1 .1 .1 .0, (c .before .before .before .before .before .before .before .before .before .before .before .before .before .before .source) .kept .1 .1 .1 .1 .1 .1 .1 .1 .1 .1 .1 .0, (c .before .before .before .before .before .before .before .before .before .before .before .before .before .before .before .before .before .before .before .before .before .before .before .fill-block) .kept .0)
+    (omega (arith, s .pre .0, l .above t, hj), (ready-same R (c .before .before .before .before .before .before .before .before .before .before .before .fill-block .kept .0 ∙ l .outs) (l .first-buffer) (l .second-buffer), scratch-same (s .pre .1 .1) (l .scr), l .sound, hj, l .member t .is))
 
--- src/lib.rt:313:13
-mix-mul-j-2 : (t : ℕ) → mix-lts.Need-mul-j-2 (
-  kind-at-reads.Asked,
-  kind-at-reads.Learnt,
-  fill-block-reads.Asked,
-  fill-block-reads.Learnt,
-  source-below t,
-  source.Post,
-  scratch-join-reads.Asked,
-  scratch-join-reads.Learnt,
-) (mix-at t) mix.Post mix-Inv-loop mix-μ-loop
-mix-mul-j-2 t c = let s = (c .before .before .before .before .before .before .before .before .before .before .before .before .before .before .before .before .before .before .before .before .before .before .before .before .before .before .before .before .before .before .before .before .before .before .before .before .before .before .before .before .before .before .before .before .before .before .before .before) in
+mix-scratch-join-requires : (t : ℕ) → mix-lts.Need-scratch-join-requires (mix-claims t) (mix-at t) mix.Post mix-Inv-loop mix-μ-loop
+mix-scratch-join-requires t c κs =
+    let s = c .before .before .before .before .before .before .before .before .before .before .before .before .before .before .before .before .before .before .before .before .before .before .before .before .before .before .before .before .before .before .before .before .before .before .before .before .before .before .before .before .before .before .before .before .before .before .before .before in
     let R = s .pre .1 .0 in
     let vo = R .voiced in
     let S = s .args .sheet .now in
@@ -406,24 +384,31 @@ mix-mul-j-2 t c = let s = (c .before .before .before .before .before .before .be
     let hi = s .pre .1 .3 in
     let h : i < countOf S = omega (arith, hi, vo .passed .count) in
     let e = fold-nodes (kind S i) (s .pre .1 .4) in
-    let L = (c .before .before .before .before .before .before .before .before .before .before .before .before .before .before .before .before .before .before .before .before .before .before .before .before .before .before .before .before .before .loop) in
+    let L = c .before .before .before .before .before .before .before .before .before .before .before .before .before .before .before .before .before .before .before .before .before .before .before .before .before .before .before .before .before .loop in
     let l = L .inv .2 in
-    let t = (c .before .before .before .before .before .before .before .before .before .before .before .before .before .before .before .before .before .before .before .before .before .before .before .before .before .before .before .before .loop-test) .taken in
+    let t = c .before .before .before .before .before .before .before .before .before .before .before .before .before .before .before .before .before .before .before .before .before .before .before .before .before .before .before .before .loop-test .taken in
+    let hj : L .j < s .args .count = omega (arith, l .inside, vo .passed .count) in
+    omega (arith, playable S (vo .passed .passed) .scratch-end i h, L .inv .1, s .pre .1 .1 .room, R .short, s .pre .1 .5, l .scr, l .outs, c .before .before .before .before .before .before .before .before .before .before .before .before .before .before .source .kept .1 .1 .1 .1 .1 .1 .1 .1 .1 .1 .1 .1 .1 .1 .1 .1 .1 .0, c .before .before .before .before .before .before .before .before .before .before .before .before .before .before .source .kept .1 .1 .1 .1 .1 .1 .1 .1 .1 .1 .1 .0, c .before .before .before .before .before .before .before .before .before .before .before .before .before .before .before .before .before .before .before .before .before .before .before .before .before .before .fill-block .kept .0)
+
+mix-mul-j-2 : (t : ℕ) → mix-lts.Need-mul-j-2 (mix-claims t) (mix-at t) mix.Post mix-Inv-loop mix-μ-loop
+mix-mul-j-2 t c =
+    let s = c .before .before .before .before .before .before .before .before .before .before .before .before .before .before .before .before .before .before .before .before .before .before .before .before .before .before .before .before .before .before .before .before .before .before .before .before .before .before .before .before .before .before .before .before .before .before .before .before .before .before .before in
+    let R = s .pre .1 .0 in
+    let vo = R .voiced in
+    let S = s .args .sheet .now in
+    let i = s .args .i in
+    let hi = s .pre .1 .3 in
+    let h : i < countOf S = omega (arith, hi, vo .passed .count) in
+    let e = fold-nodes (kind S i) (s .pre .1 .4) in
+    let L = c .before .before .before .before .before .before .before .before .before .before .before .before .before .before .before .before .before .before .before .before .before .before .before .before .before .before .before .before .before .before .before .before .loop in
+    let l = L .inv .2 in
+    let t = c .before .before .before .before .before .before .before .before .before .before .before .before .before .before .before .before .before .before .before .before .before .before .before .before .before .before .before .before .before .before .before .loop-test .taken in
     let hj : L .j < s .args .count = omega (arith, l .inside, vo .passed .count) in
     omega (arith, hj, R .after-at .long)
 
--- src/lib.rt:313:13
-mix-shared-slice-read-j-2 : (t : ℕ) → mix-lts.Need-shared-slice-read-j-2 (
-  kind-at-reads.Asked,
-  kind-at-reads.Learnt,
-  fill-block-reads.Asked,
-  fill-block-reads.Learnt,
-  source-below t,
-  source.Post,
-  scratch-join-reads.Asked,
-  scratch-join-reads.Learnt,
-) (mix-at t) mix.Post mix-Inv-loop mix-μ-loop
-mix-shared-slice-read-j-2 t c = let s = (c .before .before .before .before .before .before .before .before .before .before .before .before .before .before .before .before .before .before .before .before .before .before .before .before .before .before .before .before .before .before .before .before .before .before .before .before .before .before .before .before .before .before .before .before .before .before .before .before .before) in
+mix-shared-slice-read-j-2 : (t : ℕ) → mix-lts.Need-shared-slice-read-j-2 (mix-claims t) (mix-at t) mix.Post mix-Inv-loop mix-μ-loop
+mix-shared-slice-read-j-2 t c =
+    let s = c .before .before .before .before .before .before .before .before .before .before .before .before .before .before .before .before .before .before .before .before .before .before .before .before .before .before .before .before .before .before .before .before .before .before .before .before .before .before .before .before .before .before .before .before .before .before .before .before .before .before .before .before in
     let R = s .pre .1 .0 in
     let vo = R .voiced in
     let S = s .args .sheet .now in
@@ -431,24 +416,15 @@ mix-shared-slice-read-j-2 t c = let s = (c .before .before .before .before .befo
     let hi = s .pre .1 .3 in
     let h : i < countOf S = omega (arith, hi, vo .passed .count) in
     let e = fold-nodes (kind S i) (s .pre .1 .4) in
-    let L = (c .before .before .before .before .before .before .before .before .before .before .before .before .before .before .before .before .before .before .before .before .before .before .before .before .before .before .before .before .before .before .loop) in
+    let L = c .before .before .before .before .before .before .before .before .before .before .before .before .before .before .before .before .before .before .before .before .before .before .before .before .before .before .before .before .before .before .before .before .before .loop in
     let l = L .inv .2 in
-    let t = (c .before .before .before .before .before .before .before .before .before .before .before .before .before .before .before .before .before .before .before .before .before .before .before .before .before .before .before .before .before .loop-test) .taken in
+    let t = c .before .before .before .before .before .before .before .before .before .before .before .before .before .before .before .before .before .before .before .before .before .before .before .before .before .before .before .before .before .before .before .before .loop-test .taken in
     let hj : L .j < s .args .count = omega (arith, l .inside, vo .passed .count) in
     omega (arith, hj, R .after-at .long)
 
--- src/lib.rt:306:5
-mix-loop-less : (t : ℕ) → mix-lts.Need-loop-less (
-  kind-at-reads.Asked,
-  kind-at-reads.Learnt,
-  fill-block-reads.Asked,
-  fill-block-reads.Learnt,
-  source-below t,
-  source.Post,
-  scratch-join-reads.Asked,
-  scratch-join-reads.Learnt,
-) (mix-at t) mix.Post mix-Inv-loop mix-μ-loop
-mix-loop-less t c = let s = (c .before .before .before .before .before .before .before .before .before .before .before .before .before .before .before .before .before .before .before .before .before .before .before .before .before .before .before .before .before .before .before .before .before .before .before .before .before .before .before .before .before .before .before .before .before .before .before .before .before) in
+mix-loop-less : (t : ℕ) → mix-lts.Need-loop-less (mix-claims t) (mix-at t) mix.Post mix-Inv-loop mix-μ-loop
+mix-loop-less t c =
+    let s = c .before .before .before .before .before .before .before .before .before .before .before .before .before .before .before .before .before .before .before .before .before .before .before .before .before .before .before .before .before .before .before .before .before .before .before .before .before .before .before .before .before .before .before .before .before .before .before .before .before .before .before .before in
     let R = s .pre .1 .0 in
     let vo = R .voiced in
     let S = s .args .sheet .now in
@@ -456,24 +432,15 @@ mix-loop-less t c = let s = (c .before .before .before .before .before .before .
     let hi = s .pre .1 .3 in
     let h : i < countOf S = omega (arith, hi, vo .passed .count) in
     let e = fold-nodes (kind S i) (s .pre .1 .4) in
-    let L = (c .before .before .before .before .before .before .before .before .before .before .before .before .before .before .before .before .before .before .before .before .before .before .before .before .before .before .before .before .before .before .loop) in
+    let L = c .before .before .before .before .before .before .before .before .before .before .before .before .before .before .before .before .before .before .before .before .before .before .before .before .before .before .before .before .before .before .before .before .before .loop in
     let l = L .inv .2 in
-    let t = (c .before .before .before .before .before .before .before .before .before .before .before .before .before .before .before .before .before .before .before .before .before .before .before .before .before .before .before .before .before .loop-test) .taken in
+    let t = c .before .before .before .before .before .before .before .before .before .before .before .before .before .before .before .before .before .before .before .before .before .before .before .before .before .before .before .before .before .before .before .before .loop-test .taken in
     let hj : L .j < s .args .count = omega (arith, l .inside, vo .passed .count) in
     rw (R .after-at .at (L .j) hj) (left-less (vo .passed) (L .j) t (l .inside))
 
--- src/lib.rt:306:5
-mix-loop-again : (t : ℕ) → mix-lts.Need-loop-again (
-  kind-at-reads.Asked,
-  kind-at-reads.Learnt,
-  fill-block-reads.Asked,
-  fill-block-reads.Learnt,
-  source-below t,
-  source.Post,
-  scratch-join-reads.Asked,
-  scratch-join-reads.Learnt,
-) (mix-at t) mix.Post mix-Inv-loop mix-μ-loop
-mix-loop-again t c = let s = (c .before .before .before .before .before .before .before .before .before .before .before .before .before .before .before .before .before .before .before .before .before .before .before .before .before .before .before .before .before .before .before .before .before .before .before .before .before .before .before .before .before .before .before .before .before .before .before .before .before) in
+mix-loop-again : (t : ℕ) → mix-lts.Need-loop-again (mix-claims t) (mix-at t) mix.Post mix-Inv-loop mix-μ-loop
+mix-loop-again t c =
+    let s = c .before .before .before .before .before .before .before .before .before .before .before .before .before .before .before .before .before .before .before .before .before .before .before .before .before .before .before .before .before .before .before .before .before .before .before .before .before .before .before .before .before .before .before .before .before .before .before .before .before .before .before .before in
     let R = s .pre .1 .0 in
     let vo = R .voiced in
     let S = s .args .sheet .now in
@@ -481,24 +448,22 @@ mix-loop-again t c = let s = (c .before .before .before .before .before .before 
     let hi = s .pre .1 .3 in
     let h : i < countOf S = omega (arith, hi, vo .passed .count) in
     let e = fold-nodes (kind S i) (s .pre .1 .4) in
-    let L = (c .before .before .before .before .before .before .before .before .before .before .before .before .before .before .before .before .before .before .before .before .before .before .before .before .before .before .before .before .before .before .loop) in
+    let L = c .before .before .before .before .before .before .before .before .before .before .before .before .before .before .before .before .before .before .before .before .before .before .before .before .before .before .before .before .before .before .before .before .before .loop in
     let l = L .inv .2 in
-    let t = (c .before .before .before .before .before .before .before .before .before .before .before .before .before .before .before .before .before .before .before .before .before .before .before .before .before .before .before .before .before .loop-test) .taken in
+    let t = c .before .before .before .before .before .before .before .before .before .before .before .before .before .before .before .before .before .before .before .before .before .before .before .before .before .before .before .before .before .before .before .before .loop-test .taken in
     let hj : L .j < s .args .count = omega (arith, l .inside, vo .passed .count) in
-    (L .inv .0, L .inv .1, rw (R .after-at .at (L .j) hj) (mix-again vo i h e (s .args .c) _ _ _ _ _ _ _ _ _ _ _ _ (L .j) _ _ _ _ _ _ _ (s .pre .1 .5) (R .short) (s .pre .1 .1 .room) l t (rw ((c .before .before .before .before .before .before .before .before .before .before .before .before .before .before .before .before .before .before .before .before .before .before .before .before .before .before .before .fill-block) .ensures) at ((c .before .before .before .before .before .before .before .before .before .before .before .before .before .before .before .before .before .before .source) .ensures)) (rw (L .inv .0, L .inv .1) at ((c .before .before .before .scratch-join) .ensures)) ((c .before .before .before .before .before .before .before .before .before .before .before .before .before .before .before .before .before .before .source) .kept .1 .1 .1 .1 .1 .1 .1 .1 .1 .1 .1 .0 ∙ (c .before .before .before .before .before .before .before .before .before .before .before .before .before .before .before .before .before .before .before .before .before .before .before .before .before .before .before .fill-block) .kept .0) ((c .before .before .before .before .before .before .before .before .before .before .before .before .before .before .before .before .before .before .source) .kept .1 .1 .1 .1 .1 .1 .1 .1 .1 .1 .1 .1 .1 .1 .1 .0) ((c .before .before .before .before .before .before .before .before .before .before .before .before .before .before .before .before .before .before .source) .kept .1 .1 .1 .1 .1 .1 .1 .1 .1 .1 .1 .1 .1 .1 .1 .1 .0) ((c .before .before .before .before .before .before .before .before .before .before .before .before .before .before .before .before .before .before .source) .kept .1 .1 .1 .1 .1 .1 .1 .1 .1 .1 .1 .1 .1 .1 .1 .1 .1 .0) ((c .before .before .before .scratch-join) .kept .1 .0) ((c .before .before .before .before .before .before .before .before .before .before .before .before .before .before .before .before .before .before .source) .kept .1 .1 .1 .1 .1 .1 .1 .1 .1 .1 .1 .1 .0) ((c .before .before .before .before .before .before .before .before .before .before .before .before .before .before .before .before .before .before .source) .kept .1 .1 .1 .1 .1 .1 .1 .1 .1 .1 .1 .1 .1 .0)))
+    let z = c .before .before .before .before .before .before .before .before .before .before .before .before .before .before .before .before .before .before .before .before .before .before .before .before .before .before .before .before .before .before .fill-block in
+    let r = c .before .before .before .before .before .before .before .before .before .before .before .before .before .before .before .before .before .before .source in
+    let w = c .before .before .before .scratch-join in (
+      L .inv .0,
+      L .inv .1,
+      rw (R .after-at .at (L .j) hj) (mix-again vo i h e (s .args .c) _ _ _ _ _ _ _ _ _ _ _ _ (L .j) _ _ _ _ _ _ _ (s .pre .1 .5) (R .short) (s .pre .1 .1 .room) l t
+          (rw (z .ensures) at (r .ensures)) (rw (L .inv .0, L .inv .1) at (w .ensures)) (r .kept .1 .1 .1 .1 .1 .1 .1 .1 .1 .1 .1 .0 ∙ z .kept .0) (r .kept .1 .1 .1 .1 .1 .1 .1 .1 .1 .1 .1 .1 .1 .1 .1 .0) (r .kept .1 .1 .1 .1 .1 .1 .1 .1 .1 .1 .1 .1 .1 .1 .1 .1 .0) (r .kept .1 .1 .1 .1 .1 .1 .1 .1 .1 .1 .1 .1 .1 .1 .1 .1 .1 .0) (w .kept .1 .0) (r .kept .1 .1 .1 .1 .1 .1 .1 .1 .1 .1 .1 .1 .0) (r .kept .1 .1 .1 .1 .1 .1 .1 .1 .1 .1 .1 .1 .1 .0)),
+    )
 
--- src/lib.rt:280:1
-mix-returns : (t : ℕ) → mix-lts.Need-returns (
-  kind-at-reads.Asked,
-  kind-at-reads.Learnt,
-  fill-block-reads.Asked,
-  fill-block-reads.Learnt,
-  source-below t,
-  source.Post,
-  scratch-join-reads.Asked,
-  scratch-join-reads.Learnt,
-) (mix-at t) mix.Post mix-Inv-loop mix-μ-loop
-mix-returns t c = let s = (c .before .before .before .before .before .before .before .before .before .before .before .before .before .before .before .before .before .before .before .before) in
+mix-leaf-requires : (t : ℕ) → mix-lts.Need-leaf-requires (mix-claims t) (mix-at t) mix.Post mix-Inv-loop mix-μ-loop
+mix-leaf-requires t c κs =
+    let s = c .before .before .before .before .before .before .before .before .before .before .before .before .before .before .before .before .before .before .before .before .before .before .before .before .before .before .before .before .before .before .before .before in
     let R = s .pre .1 .0 in
     let vo = R .voiced in
     let S = s .args .sheet .now in
@@ -506,52 +471,120 @@ mix-returns t c = let s = (c .before .before .before .before .before .before .be
     let hi = s .pre .1 .3 in
     let h : i < countOf S = omega (arith, hi, vo .passed .count) in
     let e = fold-nodes (kind S i) (s .pre .1 .4) in
-    mix-end vo i (s .args .c) _ _ _ _ _ _ _ _ _ _ _ _ ((c .before .loop) .j) e ((c .before .loop) .inv .2) ((c .loop-test) .left)
+    let L = c .before .before .before .before .before .before .before .before .before .before .before .before .before .loop in
+    let l = L .inv .2 in
+    let t = c .before .before .before .before .before .before .before .before .before .before .before .before .loop-test .taken in
+    let hj : L .j < s .args .count = omega (arith, l .inside, vo .passed .count) in
+    let f = leaf-left (c .before .before .before .before .before .before .before .kind-at2 .ensures) (c .before .before .before .before .before .before .is-fold .ensures) (c .before .before .before .before .before .if1 .left) in
+    (ready-same R (c .before .before .before .before .before .before .before .before .before .before .fill-block .kept .0 ∙ l .outs) (l .first-buffer) (l .second-buffer), hj, l .member t .is, f .0, f .1, l .sound)
 
--- src/lib.rt:222:9
-source-kind-at-requires : (t : ℕ) → source-lts.Need-kind-at-requires (
-  kind-at-reads.Asked,
-  kind-at-reads.Learnt,
-  is-fold-reads.Asked,
-  is-fold-reads.Learnt,
-  empty-reads.Asked,
-  empty-reads.Learnt,
-  scratch-fill-reads.Asked,
-  scratch-fill-reads.Learnt,
-  mix-below t,
-  mix.Post,
-  scratch-take-reads.Asked,
-  scratch-take-reads.Learnt,
-  chain-below t,
-  chain.Post,
-  leaf-reads.Asked,
-  leaf-reads.Learnt,
-) (source-at t) source.Post
+mix-scratch-join-requires-2 : (t : ℕ) → mix-lts.Need-scratch-join-requires-2 (mix-claims t) (mix-at t) mix.Post mix-Inv-loop mix-μ-loop
+mix-scratch-join-requires-2 t c κs =
+    let s = c .before .before .before .before .before .before .before .before .before .before .before .before .before .before .before .before .before .before .before .before .before .before .before .before .before .before .before .before .before .before .before .before .before .before .before .before .before .before .before .before .before .before .before .before .before in
+    let R = s .pre .1 .0 in
+    let vo = R .voiced in
+    let S = s .args .sheet .now in
+    let i = s .args .i in
+    let hi = s .pre .1 .3 in
+    let h : i < countOf S = omega (arith, hi, vo .passed .count) in
+    let e = fold-nodes (kind S i) (s .pre .1 .4) in
+    let L = c .before .before .before .before .before .before .before .before .before .before .before .before .before .before .before .before .before .before .before .before .before .before .before .before .before .before .loop in
+    let l = L .inv .2 in
+    let t = c .before .before .before .before .before .before .before .before .before .before .before .before .before .before .before .before .before .before .before .before .before .before .before .before .before .loop-test .taken in
+    let hj : L .j < s .args .count = omega (arith, l .inside, vo .passed .count) in
+    omega (arith, playable S (vo .passed .passed) .scratch-end i h, L .inv .1, s .pre .1 .1 .room, R .short, s .pre .1 .5, l .scr, l .outs, c .before .before .before .before .before .before .before .before .before .before .before .before .leaf .kept .1 .1 .1 .1 .1 .1 .1 .1 .1 .1 .0, c .before .before .before .before .before .before .before .before .before .before .before .before .before .before .before .before .before .before .before .before .before .before .before .fill-block .kept .0)
+
+mix-mul-j-3 : (t : ℕ) → mix-lts.Need-mul-j-3 (mix-claims t) (mix-at t) mix.Post mix-Inv-loop mix-μ-loop
+mix-mul-j-3 t c =
+    let s = c .before .before .before .before .before .before .before .before .before .before .before .before .before .before .before .before .before .before .before .before .before .before .before .before .before .before .before .before .before .before .before .before .before .before .before .before .before .before .before .before .before .before .before .before .before .before .before .before in
+    let R = s .pre .1 .0 in
+    let vo = R .voiced in
+    let S = s .args .sheet .now in
+    let i = s .args .i in
+    let hi = s .pre .1 .3 in
+    let h : i < countOf S = omega (arith, hi, vo .passed .count) in
+    let e = fold-nodes (kind S i) (s .pre .1 .4) in
+    let L = c .before .before .before .before .before .before .before .before .before .before .before .before .before .before .before .before .before .before .before .before .before .before .before .before .before .before .before .before .before .loop in
+    let l = L .inv .2 in
+    let t = c .before .before .before .before .before .before .before .before .before .before .before .before .before .before .before .before .before .before .before .before .before .before .before .before .before .before .before .before .loop-test .taken in
+    let hj : L .j < s .args .count = omega (arith, l .inside, vo .passed .count) in
+    omega (arith, hj, R .after-at .long)
+
+mix-shared-slice-read-j-3 : (t : ℕ) → mix-lts.Need-shared-slice-read-j-3 (mix-claims t) (mix-at t) mix.Post mix-Inv-loop mix-μ-loop
+mix-shared-slice-read-j-3 t c =
+    let s = c .before .before .before .before .before .before .before .before .before .before .before .before .before .before .before .before .before .before .before .before .before .before .before .before .before .before .before .before .before .before .before .before .before .before .before .before .before .before .before .before .before .before .before .before .before .before .before .before .before in
+    let R = s .pre .1 .0 in
+    let vo = R .voiced in
+    let S = s .args .sheet .now in
+    let i = s .args .i in
+    let hi = s .pre .1 .3 in
+    let h : i < countOf S = omega (arith, hi, vo .passed .count) in
+    let e = fold-nodes (kind S i) (s .pre .1 .4) in
+    let L = c .before .before .before .before .before .before .before .before .before .before .before .before .before .before .before .before .before .before .before .before .before .before .before .before .before .before .before .before .before .before .loop in
+    let l = L .inv .2 in
+    let t = c .before .before .before .before .before .before .before .before .before .before .before .before .before .before .before .before .before .before .before .before .before .before .before .before .before .before .before .before .before .loop-test .taken in
+    let hj : L .j < s .args .count = omega (arith, l .inside, vo .passed .count) in
+    omega (arith, hj, R .after-at .long)
+
+mix-loop-less-2 : (t : ℕ) → mix-lts.Need-loop-less-2 (mix-claims t) (mix-at t) mix.Post mix-Inv-loop mix-μ-loop
+mix-loop-less-2 t c =
+    let s = c .before .before .before .before .before .before .before .before .before .before .before .before .before .before .before .before .before .before .before .before .before .before .before .before .before .before .before .before .before .before .before .before .before .before .before .before .before .before .before .before .before .before .before .before .before .before .before .before .before in
+    let R = s .pre .1 .0 in
+    let vo = R .voiced in
+    let S = s .args .sheet .now in
+    let i = s .args .i in
+    let hi = s .pre .1 .3 in
+    let h : i < countOf S = omega (arith, hi, vo .passed .count) in
+    let e = fold-nodes (kind S i) (s .pre .1 .4) in
+    let L = c .before .before .before .before .before .before .before .before .before .before .before .before .before .before .before .before .before .before .before .before .before .before .before .before .before .before .before .before .before .before .loop in
+    let l = L .inv .2 in
+    let t = c .before .before .before .before .before .before .before .before .before .before .before .before .before .before .before .before .before .before .before .before .before .before .before .before .before .before .before .before .before .loop-test .taken in
+    let hj : L .j < s .args .count = omega (arith, l .inside, vo .passed .count) in
+    rw (R .after-at .at (L .j) hj) (left-less (vo .passed) (L .j) t (l .inside))
+
+mix-loop-again-2 : (t : ℕ) → mix-lts.Need-loop-again-2 (mix-claims t) (mix-at t) mix.Post mix-Inv-loop mix-μ-loop
+mix-loop-again-2 t c =
+    let s = c .before .before .before .before .before .before .before .before .before .before .before .before .before .before .before .before .before .before .before .before .before .before .before .before .before .before .before .before .before .before .before .before .before .before .before .before .before .before .before .before .before .before .before .before .before .before .before .before .before in
+    let R = s .pre .1 .0 in
+    let vo = R .voiced in
+    let S = s .args .sheet .now in
+    let i = s .args .i in
+    let hi = s .pre .1 .3 in
+    let h : i < countOf S = omega (arith, hi, vo .passed .count) in
+    let e = fold-nodes (kind S i) (s .pre .1 .4) in
+    let L = c .before .before .before .before .before .before .before .before .before .before .before .before .before .before .before .before .before .before .before .before .before .before .before .before .before .before .before .before .before .before .loop in
+    let l = L .inv .2 in
+    let t = c .before .before .before .before .before .before .before .before .before .before .before .before .before .before .before .before .before .before .before .before .before .before .before .before .before .before .before .before .before .loop-test .taken in
+    let hj : L .j < s .args .count = omega (arith, l .inside, vo .passed .count) in
+    let z = c .before .before .before .before .before .before .before .before .before .before .before .before .before .before .before .before .before .before .before .before .before .before .before .before .before .before .before .fill-block in
+    let r = c .before .before .before .before .before .before .before .before .before .before .before .before .before .before .before .before .leaf in
+    let w = c .before .before .before .scratch-join2 in (
+      L .inv .0,
+      L .inv .1,
+      rw (R .after-at .at (L .j) hj) (mix-again vo i h e (s .args .c) _ _ _ _ _ _ _ _ _ _ _ _ (L .j) _ _ _ _ _ _ _ (s .pre .1 .5) (R .short) (s .pre .1 .1 .room) l t
+          (sourced-leaf vo (L .j) (s .args .c) _ _ _ _ _ _ _ (rw (z .ensures) at (r .ensures))) (rw (L .inv .0, L .inv .1) at (w .ensures)) (r .kept .1 .1 .1 .1 .1 .1 .1 .1 .1 .1 .0 ∙ z .kept .0) (r .kept .1 .1 .1 .1 .1 .1 .1 .1 .1 .1 .1 .1 .1 .1 .0) (r .kept .1 .1 .1 .1 .1 .1 .1 .1 .1 .1 .1 .1 .1 .1 .1 .0) refl (w .kept .1 .0) (r .kept .1 .1 .1 .1 .1 .1 .1 .1 .1 .1 .1 .0) (r .kept .1 .1 .1 .1 .1 .1 .1 .1 .1 .1 .1 .1 .0)),
+    )
+
+mix-returns : (t : ℕ) → mix-lts.Need-returns (mix-claims t) (mix-at t) mix.Post mix-Inv-loop mix-μ-loop
+mix-returns t c =
+    let s = c .before .before .before .before .before .before .before .before .before .before .before .before .before .before .before .before .before .before .before .before in
+    let R = s .pre .1 .0 in
+    let vo = R .voiced in
+    let S = s .args .sheet .now in
+    let i = s .args .i in
+    let hi = s .pre .1 .3 in
+    let h : i < countOf S = omega (arith, hi, vo .passed .count) in
+    let e = fold-nodes (kind S i) (s .pre .1 .4) in
+    mix-end vo i (s .args .c) _ _ _ _ _ _ _ _ _ _ _ _ (c .before .loop .j) e (c .before .loop .inv .2) (c .loop-test .left)
+
+source-kind-at-requires : (t : ℕ) → source-lts.Need-kind-at-requires (source-claims t) (source-at t) source.Post
 source-kind-at-requires t c κs = let s = (c .before .before .before .before .before .before .before .before .before .before .before .before .before .before .before) in
     let R = s .pre .1 .0 in
     let vo = R .voiced in
     let hi = s .pre .1 .3 in
     omega (arith, hi, vo .passed .long)
 
--- src/lib.rt:225:9
-source-scratch-fill-requires : (t : ℕ) → source-lts.Need-scratch-fill-requires (
-  kind-at-reads.Asked,
-  kind-at-reads.Learnt,
-  is-fold-reads.Asked,
-  is-fold-reads.Learnt,
-  empty-reads.Asked,
-  empty-reads.Learnt,
-  scratch-fill-reads.Asked,
-  scratch-fill-reads.Learnt,
-  mix-below t,
-  mix.Post,
-  scratch-take-reads.Asked,
-  scratch-take-reads.Learnt,
-  chain-below t,
-  chain.Post,
-  leaf-reads.Asked,
-  leaf-reads.Learnt,
-) (source-at t) source.Post
+source-scratch-fill-requires : (t : ℕ) → source-lts.Need-scratch-fill-requires (source-claims t) (source-at t) source.Post
 source-scratch-fill-requires t c κs = let s = (c .before .before .before .before .before .before .before .before .before .before .before .before .before .before .before .before .before .before .before .before .before) in
     let R = s .pre .1 .0 in
     let vo = R .voiced in
@@ -564,25 +597,7 @@ source-scratch-fill-requires t c κs = let s = (c .before .before .before .befor
     let ea = s .pre .1 .1 .scratch-at .at i (omega (arith, hi)) in
     omega (arith, playable S (vo .passed .passed) .scratch-end i h, ea, s .pre .1 .1 .room, R .short, need)
 
--- src/lib.rt:226:9
-source-mix-requires : (t : ℕ) → source-lts.Need-mix-requires (
-  kind-at-reads.Asked,
-  kind-at-reads.Learnt,
-  is-fold-reads.Asked,
-  is-fold-reads.Learnt,
-  empty-reads.Asked,
-  empty-reads.Learnt,
-  scratch-fill-reads.Asked,
-  scratch-fill-reads.Learnt,
-  mix-below t,
-  mix.Post,
-  scratch-take-reads.Asked,
-  scratch-take-reads.Learnt,
-  chain-below t,
-  chain.Post,
-  leaf-reads.Asked,
-  leaf-reads.Learnt,
-) (source-at t) source.Post
+source-mix-requires : (t : ℕ) → source-lts.Need-mix-requires (source-claims t) (source-at t) source.Post
 source-mix-requires t c κs = let s = (c .before .before .before .before .before .before .before .before .before .before .before .before .before .before .before .before .before .before .before .before .before .before .before .before .before .before .before .before .before .before) in
     let R = s .pre .1 .0 in
     let vo = R .voiced in
@@ -595,25 +610,7 @@ source-mix-requires t c κs = let s = (c .before .before .before .before .before
     let ea = s .pre .1 .1 .scratch-at .at i (omega (arith, hi)) in
     (omega (arith, s .pre .0, hi), (R, scratch-same (s .pre .1 .1) ((c .before .before .before .before .before .before .before .before .scratch-fill) .kept .0), s .pre .1 .2, hi, f, need))
 
--- src/lib.rt:230:9
-source-scratch-take-requires : (t : ℕ) → source-lts.Need-scratch-take-requires (
-  kind-at-reads.Asked,
-  kind-at-reads.Learnt,
-  is-fold-reads.Asked,
-  is-fold-reads.Learnt,
-  empty-reads.Asked,
-  empty-reads.Learnt,
-  scratch-fill-reads.Asked,
-  scratch-fill-reads.Learnt,
-  mix-below t,
-  mix.Post,
-  scratch-take-reads.Asked,
-  scratch-take-reads.Learnt,
-  chain-below t,
-  chain.Post,
-  leaf-reads.Asked,
-  leaf-reads.Learnt,
-) (source-at t) source.Post
+source-scratch-take-requires : (t : ℕ) → source-lts.Need-scratch-take-requires (source-claims t) (source-at t) source.Post
 source-scratch-take-requires t c κs = let s = (c .before .before .before .before .before .before .before .before .before .before .before .before .before .before .before .before .before .before .before .before .before .before .before .before .before .before .before .before .before .before .before .before .before .before .before .before .before .before .before .before .before .before .before .before .before) in
     let R = s .pre .1 .0 in
     let vo = R .voiced in
@@ -626,25 +623,7 @@ source-scratch-take-requires t c κs = let s = (c .before .before .before .befor
     let ea = s .pre .1 .1 .scratch-at .at i (omega (arith, hi)) in
     omega (arith, playable S (vo .passed .passed) .scratch-end i h, ea, s .pre .1 .1 .room, R .short, need, (c .before .before .before .before .before .before .before .before .before .before .before .before .before .before .before .before .before .before .before .before .before .before .before .scratch-fill) .kept .0, (c .before .before .before .before .before .before .before .before .before .before .before .before .before .before .mix) .kept .1 .1 .1 .1 .1 .1 .1 .1 .1 .1 .1 .1 .1 .1 .1 .1 .1 .0, (c .before .before .before .before .before .before .before .before .before .before .before .before .before .before .mix) .kept .1 .1 .1 .1 .1 .1 .1 .1 .1 .1 .1 .0)
 
--- src/lib.rt:231:9
-source-returns : (t : ℕ) → source-lts.Need-returns (
-  kind-at-reads.Asked,
-  kind-at-reads.Learnt,
-  is-fold-reads.Asked,
-  is-fold-reads.Learnt,
-  empty-reads.Asked,
-  empty-reads.Learnt,
-  scratch-fill-reads.Asked,
-  scratch-fill-reads.Learnt,
-  mix-below t,
-  mix.Post,
-  scratch-take-reads.Asked,
-  scratch-take-reads.Learnt,
-  chain-below t,
-  chain.Post,
-  leaf-reads.Asked,
-  leaf-reads.Learnt,
-) (source-at t) source.Post
+source-returns : (t : ℕ) → source-lts.Need-returns (source-claims t) (source-at t) source.Post
 source-returns t c = let s = (c .before .before .before .before .before .before .before .before .before .before .before .before .before .before .before .before .before .before .before .before .before .before .before .before .before .before .before .before .before .before .before .before .before .before .before .before .before .before .before .before .before .before .before .before .before .before .before .before) in
     let R = s .pre .1 .0 in
     let vo = R .voiced in
@@ -657,25 +636,7 @@ source-returns t c = let s = (c .before .before .before .before .before .before 
     let ea = s .pre .1 .1 .scratch-at .at i (omega (arith, hi)) in
     sourced-mix vo i (s .args .c) _ _ _ _ _ _ _ _ _ h need (R .short) (s .pre .1 .1 .room) (fold-is S i f) (rw (ea, (c .before .before .before .before .before .before .before .before .before .before .before .before .before .before .before .before .before .before .before .before .before .before .before .before .before .before .before .empty) .ensures, (c .before .before .before .before .before .before .before .before .before .before .before .before .before .before .before .before .before .before .before .before .before .before .before .before .before .before .before .before .before .before .before .before .kind-at) .ensures) at ((c .before .before .before .before .before .before .before .before .before .before .before .before .before .before .before .before .before .before .before .before .before .before .before .before .before .before .scratch-fill) .ensures)) ((c .before .before .before .before .before .before .before .before .before .before .before .before .before .before .before .before .before .mix) .ensures) (rw (ea, (c .before .before .before .before .before .before .before .before .before .before .before .before .before .before .before .before .before .mix) .kept .1 .1 .1 .1 .1 .1 .1 .1 .1 .1 .1 .0) at ((c .before .before .scratch-take) .ensures))
 
--- src/lib.rt:234:9
-source-chain-requires : (t : ℕ) → source-lts.Need-chain-requires (
-  kind-at-reads.Asked,
-  kind-at-reads.Learnt,
-  is-fold-reads.Asked,
-  is-fold-reads.Learnt,
-  empty-reads.Asked,
-  empty-reads.Learnt,
-  scratch-fill-reads.Asked,
-  scratch-fill-reads.Learnt,
-  mix-below t,
-  mix.Post,
-  scratch-take-reads.Asked,
-  scratch-take-reads.Learnt,
-  chain-below t,
-  chain.Post,
-  leaf-reads.Asked,
-  leaf-reads.Learnt,
-) (source-at t) source.Post
+source-chain-requires : (t : ℕ) → source-lts.Need-chain-requires (source-claims t) (source-at t) source.Post
 source-chain-requires t c κs = let s = (c .before .before .before .before .before .before .before .before .before .before .before .before .before .before .before .before .before .before .before .before .before .before .before .before .before) in
     let R = s .pre .1 .0 in
     let vo = R .voiced in
@@ -685,25 +646,7 @@ source-chain-requires t c κs = let s = (c .before .before .before .before .befo
     let h : i < countOf S = omega (arith, hi, vo .passed .count) in
     (omega (arith, s .pre .0, hi), (R, s .pre .1 .1, s .pre .1 .2, hi, sym ((c .before .before .before .before .before .before .before .before .before .kind-at) .ensures) ∙ (c .before .before .before .before .before .before .if2) .taken))
 
--- src/lib.rt:238:9
-source-returns-2 : (t : ℕ) → source-lts.Need-returns-2 (
-  kind-at-reads.Asked,
-  kind-at-reads.Learnt,
-  is-fold-reads.Asked,
-  is-fold-reads.Learnt,
-  empty-reads.Asked,
-  empty-reads.Learnt,
-  scratch-fill-reads.Asked,
-  scratch-fill-reads.Learnt,
-  mix-below t,
-  mix.Post,
-  scratch-take-reads.Asked,
-  scratch-take-reads.Learnt,
-  chain-below t,
-  chain.Post,
-  leaf-reads.Asked,
-  leaf-reads.Learnt,
-) (source-at t) source.Post
+source-returns-2 : (t : ℕ) → source-lts.Need-returns-2 (source-claims t) (source-at t) source.Post
 source-returns-2 t c = let s = (c .before .before .before .before .before .before .before .before .before .before .before .before .before .before .before .before .before .before .before .before .before .before .before .before .before .before .before .before .before .before .before .before .before .before .before .before .before .before) in
     let R = s .pre .1 .0 in
     let vo = R .voiced in
@@ -714,25 +657,7 @@ source-returns-2 t c = let s = (c .before .before .before .before .before .befor
     let f = ap isFold (sym ((c .before .before .before .before .before .before .before .before .before .before .before .before .before .before .before .before .before .before .before .before .before .before .kind-at) .ensures)) ∙ sym ((c .before .before .before .before .before .before .before .before .before .before .before .before .before .before .before .before .before .before .before .before .before .is-fold) .ensures) ∙ (c .before .before .before .before .before .before .before .before .before .before .before .before .before .before .before .before .before .before .before .before .if1) .left in
     sourced-chain vo i (s .args .c) _ _ _ _ _ _ _ _ (chain-is S i f (sym ((c .before .before .before .before .before .before .before .before .before .before .before .before .before .before .before .before .before .before .before .before .before .before .kind-at) .ensures) ∙ (c .before .before .before .before .before .before .before .before .before .before .before .before .before .before .before .before .before .before .before .if2) .taken)) ((c .before .before .before .before .before .before .before .before .before .before .before .before .chain) .ensures)
 
--- src/lib.rt:240:5
-source-leaf-requires : (t : ℕ) → source-lts.Need-leaf-requires (
-  kind-at-reads.Asked,
-  kind-at-reads.Learnt,
-  is-fold-reads.Asked,
-  is-fold-reads.Learnt,
-  empty-reads.Asked,
-  empty-reads.Learnt,
-  scratch-fill-reads.Asked,
-  scratch-fill-reads.Learnt,
-  mix-below t,
-  mix.Post,
-  scratch-take-reads.Asked,
-  scratch-take-reads.Learnt,
-  chain-below t,
-  chain.Post,
-  leaf-reads.Asked,
-  leaf-reads.Learnt,
-) (source-at t) source.Post
+source-leaf-requires : (t : ℕ) → source-lts.Need-leaf-requires (source-claims t) (source-at t) source.Post
 source-leaf-requires t c κs = let s = (c .before .before .before .before .before .before .before .before .before .before .before .before .before .before .before .before .before .before .before .before .before .before .before .before) in
     let R = s .pre .1 .0 in
     let vo = R .voiced in
@@ -743,25 +668,7 @@ source-leaf-requires t c κs = let s = (c .before .before .before .before .befor
     let f = ap isFold (sym ((c .before .before .before .before .before .before .before .before .kind-at) .ensures)) ∙ sym ((c .before .before .before .before .before .before .before .is-fold) .ensures) ∙ (c .before .before .before .before .before .before .if1) .left in
     (R, hi, s .pre .1 .4, f, (λ q. (c .before .before .before .before .before .if2) .left ((c .before .before .before .before .before .before .before .before .kind-at) .ensures ∙ q)), s .pre .1 .2)
 
--- src/lib.rt:199:1
-source-returns-3 : (t : ℕ) → source-lts.Need-returns-3 (
-  kind-at-reads.Asked,
-  kind-at-reads.Learnt,
-  is-fold-reads.Asked,
-  is-fold-reads.Learnt,
-  empty-reads.Asked,
-  empty-reads.Learnt,
-  scratch-fill-reads.Asked,
-  scratch-fill-reads.Learnt,
-  mix-below t,
-  mix.Post,
-  scratch-take-reads.Asked,
-  scratch-take-reads.Learnt,
-  chain-below t,
-  chain.Post,
-  leaf-reads.Asked,
-  leaf-reads.Learnt,
-) (source-at t) source.Post
+source-returns-3 : (t : ℕ) → source-lts.Need-returns-3 (source-claims t) (source-at t) source.Post
 source-returns-3 t c = let s = (c .before .before .before .before .before .before .before .before .before .before .before .before .before .before .before .before .before .before .before .before .before .before .before .before .before .before .before .before .before .before .before .before .before .before .before) in
     let R = s .pre .1 .0 in
     let vo = R .voiced in
@@ -773,39 +680,34 @@ source-returns-3 t c = let s = (c .before .before .before .before .before .befor
     sourced-leaf vo i (s .args .c) _ _ _ _ _ _ _ ((c .before .before .before .before .before .before .before .before .before .before .leaf) .ensures)
 
 pub +chain+mix+source-spec : {M : Type 1} → statement M
-+chain+mix+source-spec = close μ-chain μ-mix μ-source (λ t. chain-lts.spec (
-  source-below t,
-  source.Post,
-)
++chain+mix+source-spec = close μ-chain μ-mix μ-source (λ t. chain-lts.spec (chain-claims t)
     (chain-at t)
     chain.Post
     chain-Inv-loop
     chain-μ-loop
-    (chain-mul-j t)
+    (λ c. search needs)
     (λ c. search needs)
     (chain-loop-holds t)
+    (chain-kind-at-requires t)
+    (λ c κs. search needs)
     (chain-source-requires t)
     (chain-mul-j-2 t)
     (chain-shared-slice-read-j-2 t)
     (chain-loop-less t)
     (chain-loop-again t)
-    (chain-same-length t)
-    (chain-same-length-2 t)
-    (chain-same-length-3 t)
-    (chain-same-length-4 t)
-    (chain-same-length-5 t)
-    (chain-same-length-6 t)
+    (chain-leaf-requires t)
+    (chain-mul-j-3 t)
+    (chain-shared-slice-read-j-3 t)
+    (chain-loop-less-2 t)
+    (chain-loop-again-2 t)
+    (λ c. search needs)
+    (λ c. search needs)
+    (λ c. search needs)
+    (λ c. search needs)
+    (λ c. search needs)
+    (λ c. search needs)
     (chain-returns t))
-    (λ t. mix-lts.spec (
-      kind-at-reads.Asked,
-      kind-at-reads.Learnt,
-      fill-block-reads.Asked,
-      fill-block-reads.Learnt,
-      source-below t,
-      source.Post,
-      scratch-join-reads.Asked,
-      scratch-join-reads.Learnt,
-    )
+    (λ t. mix-lts.spec (mix-claims t)
     (mix-at t)
     mix.Post
     mix-Inv-loop
@@ -817,12 +719,20 @@ pub +chain+mix+source-spec : {M : Type 1} → statement M
     (λ c. search needs)
     (mix-loop-holds t)
     (λ c κs. search needs)
+    (mix-kind-at-requires-2 t)
+    (λ c κs. search needs)
     (mix-source-requires t)
     (mix-scratch-join-requires t)
     (mix-mul-j-2 t)
     (mix-shared-slice-read-j-2 t)
     (mix-loop-less t)
     (mix-loop-again t)
+    (mix-leaf-requires t)
+    (mix-scratch-join-requires-2 t)
+    (mix-mul-j-3 t)
+    (mix-shared-slice-read-j-3 t)
+    (mix-loop-less-2 t)
+    (mix-loop-again-2 t)
     (λ c. search needs)
     (λ c. search needs)
     (λ c. search needs)
@@ -830,24 +740,7 @@ pub +chain+mix+source-spec : {M : Type 1} → statement M
     (λ c. search needs)
     (λ c. search needs)
     (mix-returns t))
-    λ t. source-lts.spec (
-      kind-at-reads.Asked,
-      kind-at-reads.Learnt,
-      is-fold-reads.Asked,
-      is-fold-reads.Learnt,
-      empty-reads.Asked,
-      empty-reads.Learnt,
-      scratch-fill-reads.Asked,
-      scratch-fill-reads.Learnt,
-      mix-below t,
-      mix.Post,
-      scratch-take-reads.Asked,
-      scratch-take-reads.Learnt,
-      chain-below t,
-      chain.Post,
-      leaf-reads.Asked,
-      leaf-reads.Learnt,
-    )
+    λ t. source-lts.spec (source-claims t)
     (source-at t)
     source.Post
     (source-kind-at-requires t)

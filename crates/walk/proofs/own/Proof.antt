@@ -1,101 +1,83 @@
 -- `walk::own` meets its contract: the tables say which parts are the record's own. Assumes nothing.
 use mathlib.Core.Path.{_∙_}
-use Prim.Native.Nat.{_-_, _<_}
 use native.Mathlib.Omega.{arith}
 use lib.ListN.{length-take, length-drop}
-use Rattle.sheet.specs.Record.{countOf}
 use borrow.Author.Needs.{needs}
-use Rattle.walk.specs.Walk.{parts-of, own-is, own-sound}
+use Rattle.walk.specs.Walk.{parts-of, lent-of, own-is, own-sound}
 use Rattle.walk.proofs.own.Statement.{statement}
 use Rattle.walk.proofs.own.Tie as tie
 
 kind-at-requires : tie.Need-kind-at-requires
 kind-at-requires c κs =
-    let p = c .before .before .before .before .before .before .before .before .before .before .pre .0 .voiced .passed in
-    let h = c .before .before .before .before .before .before .before .before .before .before .pre .0 .inside in
-    omega (arith, h, p .count, p .long)
+    let o = c .before .before .before .before .before .before .before .before .before .pre .0 .owned in
+    omega (arith, o .inside, o .voiced .passed .count, o .voiced .passed .long)
 
 mul-play : tie.Need-mul-play
 mul-play c =
-    let s = c .before .before .before .before .before .before .before .before .before .before .before .before .before .before .before .before in
-    let w = parts-of (s .pre .0) (s .pre .1) in
+    let s = c .before .before .before .before .before .before .before .before .before .before .before .before .before .before .before .before .before in
+    let w = parts-of (s .pre .0 .owned) (s .pre .1) in
     omega (arith, w .cup, w .cin, w .rup, w .rin)
 
 sub-play : tie.Need-sub-play
 sub-play c =
-    let s = c .before .before .before .before .before .before .before .before .before .before .before .before .before .before .before .before in
-    let w = parts-of (s .pre .0) (s .pre .1) in
+    let s = c .before .before .before .before .before .before .before .before .before .before .before .before .before .before .before .before .before in
+    let w = parts-of (s .pre .0 .owned) (s .pre .1) in
     omega (arith, w .cup, w .cin, w .rup, w .rin)
 
 part-play-start : tie.Need-part-play-start
 part-play-start c =
-    let s = c .before .before .before .before .before .before .before .before .before .before .before .before .before .before .before .before in
-    let w = parts-of (s .pre .0) (s .pre .1) in
+    let s = c .before .before .before .before .before .before .before .before .before .before .before .before .before .before .before .before .before in
+    let w = parts-of (s .pre .0 .owned) (s .pre .1) in
     omega (arith, w .cup, w .cin, w .rup, w .rin)
 
 part-play-end : tie.Need-part-play-end
 part-play-end c =
-    let s = c .before .before .before .before .before .before .before .before .before .before .before .before .before .before .before .before in
-    let w = parts-of (s .pre .0) (s .pre .1) in
+    let s = c .before .before .before .before .before .before .before .before .before .before .before .before .before .before .before .before .before in
+    let w = parts-of (s .pre .0 .owned) (s .pre .1) in
     omega (arith, w .cup, w .cin, w .rup, w .rin)
 
 mul-play-2 : tie.Need-mul-play-2
 mul-play-2 c =
-    let s = c .before .before .before .before .before .before .before .before .before .before .before .before .before .before .before .before .before in
-    let w = parts-of (s .pre .0) (s .pre .1) in
+    let s = c .before .before .before .before .before .before .before .before .before .before .before .before .before .before .before .before .before .before in
+    let w = parts-of (s .pre .0 .owned) (s .pre .1) in
     omega (arith, w .cup, w .cin, w .rup, w .rin)
 
 sub-play-2 : tie.Need-sub-play-2
 sub-play-2 c =
-    let s = c .before .before .before .before .before .before .before .before .before .before .before .before .before .before .before .before .before in
-    let w = parts-of (s .pre .0) (s .pre .1) in
+    let s = c .before .before .before .before .before .before .before .before .before .before .before .before .before .before .before .before .before .before in
+    let w = parts-of (s .pre .0 .owned) (s .pre .1) in
     omega (arith, w .cup, w .cin, w .rup, w .rin)
 
 part-play-start-2 : tie.Need-part-play-start-2
 part-play-start-2 c =
-    let s = c .before .before .before .before .before .before .before .before .before .before .before .before .before .before .before .before .before in
-    let w = parts-of (s .pre .0) (s .pre .1) in
+    let s = c .before .before .before .before .before .before .before .before .before .before .before .before .before .before .before .before .before .before in
+    let w = parts-of (s .pre .0 .owned) (s .pre .1) in
     omega (arith, w .cup, w .cin, w .rup, w .rin)
 
 part-play-end-2 : tie.Need-part-play-end-2
 part-play-end-2 c =
-    let s = c .before .before .before .before .before .before .before .before .before .before .before .before .before .before .before .before .before in
-    let w = parts-of (s .pre .0) (s .pre .1) in
+    let s = c .before .before .before .before .before .before .before .before .before .before .before .before .before .before .before .before .before .before in
+    let w = parts-of (s .pre .0 .owned) (s .pre .1) in
     omega (arith, w .cup, w .cin, w .rup, w .rin)
 
 play-requires : tie.Need-play-requires
 play-requires c κs =
-    let s = c .before .before .before .before .before .before .before .before .before .before .before .before .before .before .before .before .before .before in
+    let s = c .before .before .before .before .before .before .before .before .before .before .before .before .before .before .before .before .before .before .before in
+    let w = parts-of (s .pre .0 .owned) (s .pre .1) in
     let l = s .pre .0 in
-    let w = parts-of l (s .pre .1) in
-    let k = c .before .before .before .before .before .before .before .kind-at .ensures in
-    let h : s .args .i < countOf (s .args .sheet .now) = omega (arith, l .inside, l .voiced .passed .count) in (
-      l .voiced .passed,
-      l .next-at,
-      record {
-        passed = l .voiced .passed .passed;
-        inside = h;
-        kind-is = k;
-        cells = simp (length-take, length-drop) (omega (arith, w .cin, w .cup, w .cn));
-        registers = simp (length-take, length-drop) (omega (arith, w .rin, w .rup, w .rn));
-      },
-      rw k (l .unit-is),
-      own-sound _ _ _ (s .pre .1) (s .args .i) _ _ _ _ h (l .built-is) (w .ca) (w .ra) (w .cn) (w .rn),
-      l .first-long,
-      l .second-long,
-      l .pitched,
-      l .early,
-    )
+    let e = c .before .before .before .before .before .before .before .before .before .kind-at .ensures in
+    let t = lent-of (l .owned) (s .pre .1) e in
+    (t, rw e (l .unit-is), own-sound _ _ _ (s .pre .1) (s .args .i) _ _ _ _ (t .inside) (l .owned .built-is) (w .ca) (w .ra) (w .cn) (w .rn), l .first-long, l .second-long, l .pitched, l .early)
 
 returns : tie.Need-returns
 returns c =
-    let s = c .before .before .before .before .before .before .before .before .before .before .before .before .before .before .before .before .before .before .before .before .before .before .before .before .before in
-    let w = parts-of (s .pre .0) (s .pre .1) in
-    let p = c .before .before .before .before .before .before .play in
-    own-is _ (s .args .i) (s .args .c) _ _ _ _ _ _ _ _ _ _ _ (s .pre .0 .built-is) (w .ca) (w .ce) (w .ra) (w .re) (w .cin) (w .rin)
-    (p .kept .1 .1 .1 .1 .1 .1 .1 .1 .1 .1 .0 ∙ simp (length-take, length-drop) (omega (arith, w .cin)))
-    (p .kept .1 .1 .1 .1 .1 .1 .1 .1 .1 .1 .1 .0 ∙ simp (length-take, length-drop) (omega (arith, w .rin)))
-    (rw (c .before .before .before .before .before .before .before .before .before .before .before .before .before .before .kind-at .ensures) at (p .ensures))
+    let s = c .before .before .before .before .before .before .before .before .before .before .before .before .before .before .before .before .before .before .before .before .before .before .before .before .before .before .before .before .before .before in
+    let w = parts-of (s .pre .0 .owned) (s .pre .1) in
+    let p = c .before .before .before .before .before .before .before .before .before .before .play in
+    own-is _ (s .args .i) (s .args .c) _ _ _ _ _ _ _ _ _ _ _ (s .pre .0 .owned .built-is) (w .ca) (w .ce) (w .ra) (w .re) (w .cin) (w .rin)
+    (p .kept .1 .1 .1 .1 .1 .1 .1 .1 .0 ∙ simp (length-take, length-drop) (omega (arith, w .cin)))
+    (p .kept .1 .1 .1 .1 .1 .1 .1 .1 .1 .0 ∙ simp (length-take, length-drop) (omega (arith, w .rin)))
+    (rw (c .before .before .before .before .before .before .before .before .before .before .before .before .before .before .before .before .before .before .before .before .kind-at .ensures) at (p .ensures))
 
 pub own-spec : {M : Type 1} → statement M
 own-spec =
@@ -121,6 +103,8 @@ own-spec =
     part-play-start-2
     part-play-end-2
     play-requires
+    (λ c. search needs)
+    (λ c. search needs)
     (λ c. search needs)
     (λ c. search needs)
     (λ c. search needs)

@@ -1,4 +1,4 @@
--- `proc_block::drive_long` meets its contract. Assumes nothing.
+-- `proc_block::drive_steps` meets its contract. Assumes nothing.
 use mathlib.Core.Path.{ap, _∙_}
 use Prim.Native.Nat.{_-_}
 use native.Mathlib.Nat.{le-refl}
@@ -11,8 +11,8 @@ use Rattle.proc.specs.Effects.{driveStep}
 use lib.ListN.{getD}
 use Rattle.proc_block.specs.Steps.{driveStepAt}
 use borrow.Author.Needs.{needs}
-use Rattle.proc_block.proofs.drive_long.Statement.{statement}
-use Rattle.proc_block.proofs.drive_long.Tie as tie
+use Rattle.proc_block.proofs.drive_steps.Statement.{statement}
+use Rattle.proc_block.proofs.drive_steps.Tie as tie
 
 abbrev Inv-loop : tie.InvT-loop
 Inv-loop out₀ amount shape p₀ k₀ out p k = Going nan (driveStepAt out₀ amount shape) p₀ out₀ k out p
@@ -33,8 +33,8 @@ loop-again c =
 returns : tie.Need-returns Inv-loop μ-loop
 returns c = going-end nan _ _ _ (c .before .loop .inv) (omega arith)
 
-pub drive-long-spec : {M : Type 1} → statement M
-drive-long-spec =
+pub drive-steps-spec : {M : Type 1} → statement M
+drive-steps-spec =
     tie.close
     (tie.spec
     Inv-loop
