@@ -1,6 +1,6 @@
 -- Compress in two passes is Compress, Drive by tanh in four is Drive, the LFO in two is the LFO, and Tremolo by its sines is Tremolo. Assumes nothing.
 use mathlib.Core.Path.{_≡_, refl, sym, ap, _∙_}
-use mathlib.Core.List.{List}
+use mathlib.Core.List.{List, map}
 use Prim.Native.Nat.{ℕ, zero, suc, _≤_, _<_}
 use native.Mathlib.Omega.{arith}
 use lib.ListN.{length}
@@ -8,12 +8,13 @@ use lib.Ieee.{Float, nan}
 use Rattle.tree.specs.Block.{tab-eq}
 use Rattle.block.specs.Iterate.{at, after, given, sampleAt, given-length, given-at, after-same, given-same}
 use Rattle.dsl.specs.declared.DriveShape.the-variants.{Tanh}
+use Rattle.dsp.specs.Map.{map-tab}
 use Rattle.dsp.specs.Math.{sine}
 use Rattle.render.specs.Drive.{lnCosh, antiderivativeOf}
 use Rattle.proc.specs.declared.Drive.{Drive}
 use Rattle.proc.specs.declared.DriveOut.{DriveOut}
 use Rattle.proc.specs.Effects.{driven, driveBy, driveStep, tremoloBy, tremoloOf, compressGain, compressOf}
-use Rattle.proc_block.specs.Steps.{drivenStep, decayStep, lnCoshStep, driveByStep, driveStepAt, lfoStep, angleStep, sineStep, tremoloStep, tremoloByStep, compressStep, levelStep, levelGainStep}
+use Rattle.proc_block.specs.Steps.{drivenStep, decayStep, lnCoshStep, driveByStep, driveStepAt, lfoStep, angleStep, tremoloStep, tremoloByStep, compressStep, levelStep, levelGainStep}
 
 module _ (xs : List Float) (attack release threshold ratio makeup env : Float) where
   abbrev whole : ℕ → Float → Float × Float
@@ -68,13 +69,10 @@ module _ (xs amount ys ds fs : List Float) (n : ℕ) (long : n ≡ length xs)
   pub after-drive : (s : Drive) → after (driveByStep ys fs Tanh) s (length ys) ≡ after (driveStepAt xs amount Tanh) s (length xs)
   after-drive s = ap (after (driveByStep ys fs Tanh) s) length-ys ∙ after-same (driveByStep ys fs Tanh) (driveStepAt xs amount Tanh) s (length xs) step-is
 
--- ys are the angles
-pub given-lfo : (rate srf : Float) (t n : ℕ) {ys : List Float} → ys ≡ given (angleStep rate srf t) tt n → given (sineStep ys) tt (length ys) ≡ given (lfoStep rate srf t) tt n
-unfolding angleStep sineStep lfoStep
-given-lfo rate srf t n {ys} e =
-    ap (given (sineStep ys) tt) (ap length e ∙ given-length (angleStep rate srf t) tt n)
-    ∙ given-same (sineStep ys) (lfoStep rate srf t) tt n
-    (λ k h u. ap {B = Float × Unit {0}} (λ x. (sine x, u)) (ap (λ (l : List Float). at l k) e ∙ given-at (angleStep rate srf t) tt n k nan h))
+-- the sines of the angles
+pub given-lfo : (rate srf : Float) (t n : ℕ) → map sine (given (angleStep rate srf t) tt n) ≡ given (lfoStep rate srf t) tt n
+unfolding given angleStep lfoStep
+given-lfo rate srf t n = map-tab sine n (sampleAt (angleStep rate srf t) tt)
 
 -- ys are the sines, in a buffer of m
 pub given-tremolo : (xs : List Float) (rate depth srf : Float) (t m : ℕ) {ys : List Float} → length xs ≤ m → ys ≡ given (lfoStep rate srf t) tt m

@@ -4,7 +4,6 @@ use Prim.Native.Nat.{ℕ, _+_}
 use lib.Ieee.{Float}
 use Rattle.block.specs.Iterate.{at}
 use Rattle.dsl.specs.declared.DriveShape.{DriveShape}
-use Rattle.dsp.specs.Math.{sine}
 use Rattle.render.specs.declared.FilterKind.{FilterKind}
 use Rattle.render.specs.Drive.{decayOf, lnCosh}
 use Rattle.proc.specs.declared.Filter.{Filter}
@@ -42,9 +41,6 @@ lfoStep rate srf t k s = (lfoAt rate srf (t + k), s)
 
 unfoldable pub angleStep : Float → Float → ℕ → ℕ → Unit {0} → Float × Unit {0}
 angleStep rate srf t k s = (lfoAngle rate srf (t + k), s)
-
-unfoldable pub sineStep : List Float → ℕ → Unit {0} → Float × Unit {0}
-sineStep xs k s = (sine (at xs k), s)
 
 unfoldable pub tremoloStep : List Float → Float → Float → Float → ℕ → ℕ → Unit {0} → Float × Unit {0}
 tremoloStep xs rate depth srf t k s = (tremoloOf rate depth srf (t + k) (at xs k), s)

@@ -5,7 +5,7 @@ ghost use Prim.Native.Nat.{_+_, _^_, _≤_, _<_};
 ghost use lib.ListN.{length};
 ghost use Rattle.dsl.specs.declared.DriveShape.the-variants.{Tanh};
 ghost use Rattle.block.specs.Iterate.{given, after};
-ghost use Rattle.proc_block.specs.Steps.{gainStep, filterStep, drivenStep, decayStep, lnCoshStep, driveByStep, driveStepAt, drivePlainStep, lfoStep, angleStep, sineStep, tremoloStep, tremoloByStep, compressStep, levelStep, levelGainStep};
+ghost use Rattle.proc_block.specs.Steps.{gainStep, filterStep, drivenStep, decayStep, lnCoshStep, driveByStep, driveStepAt, drivePlainStep, lfoStep, angleStep, tremoloStep, tremoloByStep, compressStep, levelStep, levelGainStep};
 
 pub fn gain_block(out: &mut [f32], amount: &[f32])
     requires { ⌜ (length (now out) ≤ length (now amount)) ⌝ }
@@ -172,23 +172,13 @@ fn lfo_angles(buf: &mut [f32], rate: f32, srf: f32, t: u64)
     }
 }
 
-fn lfo_sines(buf: &mut [f32])
-    ensures { λ v. ⌜ (now (buf .exit) ≡ given (sineStep (now (buf .entry))) tt (length (now (buf .entry)))) ⌝ }
-{
-    let mut k: usize = 0;
-    while k < buf.len() {
-        buf[k] = dsp::sin(buf[k]);
-        k += 1;
-    }
-}
-
 // t is the position of the first sample.
 pub fn lfo_block(buf: &mut [f32], rate: f32, srf: f32, t: u64)
     requires { ⌜ (t + length (now buf) < 2 ^ 64) ⌝ }
     ensures { λ v. ⌜ (now (buf .exit) ≡ given (lfoStep rate srf t) tt (length (now (buf .entry)))) ⌝ }
 {
     lfo_angles(buf, rate, srf, t);
-    lfo_sines(buf);
+    dsp::sin_block(buf);
 }
 
 fn tremolo_products(out: &mut [f32], sines: &[f32], depth: f32)
