@@ -15,7 +15,7 @@ use Rattle.tree.specs.Forest.{Forest, build, whole, root, whole-nil, whole-node
 use Rattle.sheet.specs.Kinds.{isNode, isValue}
 use Rattle.sheet.specs.Tree.{spine, depth}
 use Rattle.sheet.specs.Checks.{all, every, hit, sum, holds, lowest}
-use Rattle.sheet.specs.Links.{at, Links, Linked, hitsAt, Counted, onceAt, along, chainAt, depthAt, shapeOf}
+use Rattle.sheet.specs.Links.{at, nodeAt, Links, Linked, hitsAt, Counted, onceAt, along, chainAt, depthAt, shapeOf}
 use Rattle.sheet.specs.Laws.{both, and-assoc, and-comm, and-true, and-false, all-at, every-same, sum-suc, sum-one, sum-two}
 use Rattle.sheet.specs.Codes.{chainOf, classOf, wantOf}
 use Rattle.sheet.specs.Table.{entry}
@@ -293,6 +293,38 @@ pub depth-most : (k f x : ℕ → ℕ) (n j : ℕ) → depthAt k f x n j ≤ n -
 unfolding whole
 depth-most k f x n zero = omega (arith, depth-nil k f x n)
 depth-most k f x n (suc j) = omega (arith, build-depth (λ i. isNode (k i)) f x (n - suc j) (suc j))
+
+-- nor deeper than there are nodes: those above a record are nodes of a lower index
+sum-up : (g : ℕ → ℕ) (i n : ℕ) → i ≤ n → sum g i ≤ sum g n
+unfolding sum
+sum-up g i zero h = let e : i ≡ 0 = omega arith in rw e (omega arith)
+sum-up g i (suc n) h = elim (ℕ-discrete i (suc n)) [ yes e ↦ rw e (omega arith) | no d ↦ omega (arith, sum-up g i n (omega arith)) ]
+
+module _ {f x : ℕ → ℕ} {n : ℕ} (l : Linked f x n) (k : ℕ → ℕ) where
+  nodes-above : (m j : ℕ) → n ≤ j + m → j < n → j ≢ 0 → depthAt k f x n j + sum (nodeAt k) j ≤ sum (nodeAt k) n
+  nodes-above zero j h g d = let z : ⊥ = omega arith in absurd z
+  nodes-above (suc m) j h g d =
+      let higher = below (λ i q r e. nodes-above m i (omega arith) r e) in
+      go (isNode (k j)) _ _ _ _ _ _ (depth-cons l k j d g) (sum-suc (nodeAt k) j) (higher (f j) (l .links .first-in j)) (higher (x j) (l .links .next-in j))
+    where
+      below : ((i : ℕ) → j < i → i < n → i ≢ 0 → depthAt k f x n i + sum (nodeAt k) i ≤ sum (nodeAt k) n)
+          → (i : ℕ) → (i ≢ 0 → (j < i) × (i < n)) → depthAt k f x n i + sum (nodeAt k) (j + 1) ≤ sum (nodeAt k) n
+      below r i p = elim (ℕ-discrete i 0) [
+        | yes e ↦ rw e (omega (arith, depth-nil k f x n, sum-up (nodeAt k) (j + 1) n (omega arith)))
+        | no q ↦
+            let c = p q in
+            omega (arith, r i (c .0) (c .1) q, sum-up (nodeAt k) (j + 1) i (omega (arith, c .0)))
+      ]
+
+      go : (t : Bool) (D F X S S₁ N : ℕ) → D ≡ max (cond t (suc F) 0) X → S₁ ≡ S + cond t 1 0 → F + S₁ ≤ N → X + S₁ ≤ N → D + S ≤ N
+      go true D F X S S₁ N p q a b = omega arith
+      go false D F X S S₁ N p q a b = omega arith
+
+  pub depth-nodes : (j : ℕ) → j < n → depthAt k f x n j ≤ sum (nodeAt k) n
+  depth-nodes j h = elim (ℕ-discrete j 0) [
+    | yes e ↦ rw e (omega (arith, depth-nil k f x n))
+    | no d ↦ omega (arith, nodes-above n j (omega arith) h d)
+  ]
 
 -- record 0 is a node that no other follows
 pub root-depth : {f x : ℕ → ℕ} {n : ℕ} → Links f x n → (k : ℕ → ℕ) → isNode (k 0) ≡ true → leb (depth (λ i. isNode (k i)) (root f x n)) 16 ≡ not (ltb 15 (depthAt k f x n (f 0)))

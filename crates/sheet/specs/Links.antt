@@ -1,6 +1,6 @@
 -- The checks of links over tables: k, f and x give a record's kind, first and next, n how many records there are. Those of a sheet are these at its own fields.
 use mathlib.Core.Path.{_≡_}
-use mathlib.Core.Bool.{Bool, _&&_, _||_}
+use mathlib.Core.Bool.{Bool, cond, _&&_, _||_}
 use mathlib.Core.List.{List, [], _∷_, map}
 use mathlib.Core.Logic.{_≢_}
 use Prim.Native.Nat.{ℕ, _+_, _*_, _≤_, _<_}
@@ -103,3 +103,7 @@ pub record Rows (s : List ℕ) (n : ℕ) : Type 0 where
 pub record Checked (s ks fs ns : List ℕ) (r : ℕ) : Type 0 where
   pub answer : r ≡ checkOf s
   pub tables : r ≡ 0 → Tables s ks fs ns
+
+-- 1 for a node
+abbrev pub nodeAt : (ℕ → ℕ) → ℕ → ℕ
+nodeAt k i = cond (isNode (k i)) 1 0

@@ -1,15 +1,16 @@
 // Checks 1 to 7 of document 01. A pass over the records fills tables of their kinds and links and makes checks 3 and 4;
 // the others go by the tables.
 ghost use mathlib.Core.Path.{_≡_};
-ghost use mathlib.Core.Bool.{true};
+ghost use mathlib.Core.Bool.{true, cond};
 ghost use Prim.Native.Nat.{ℕ, _+_, _-_, _*_, _≤_, _<_, min};
 ghost use lib.Dec.{eqb, ltb};
 ghost use lib.ListN.{length};
 ghost use Rattle.sheet.specs.Bytes.{byteAt, u64At};
 ghost use Rattle.sheet.specs.Record.{countOf};
-ghost use Rattle.sheet.specs.Checks.{all, every, lengthOk, headerOk, recordOk, linkOk};
+ghost use Rattle.sheet.specs.Kinds.{isNode};
+ghost use Rattle.sheet.specs.Checks.{sum, all, every, lengthOk, headerOk, recordOk, linkOk};
 ghost use Rattle.sheet.specs.Codes.{classOf, wantOf, optionsTable, numbersTable, chainsTable, classesTable};
-ghost use Rattle.sheet.specs.Links.{at, linksAt, LinksIn, LinkedIn, onceIn, alongIn, chainIn, depthIn, shapeIn, Decoded};
+ghost use Rattle.sheet.specs.Links.{at, nodeAt, linksAt, LinksIn, LinkedIn, onceIn, alongIn, chainIn, depthIn, shapeIn, Decoded};
 
 // 1
 pub fn length_ok(sheet: &[u8]) -> bool
@@ -341,13 +342,34 @@ fn deeper(kinds: &[u8], first: &[usize], next: &[usize], start: usize, room: usi
     false
 }
 
-// 7. Of at most 16 records no more than 16 nest.
+fn node_or_none(k: u8) -> usize
+    ensures { λ r. ⌜ (r ≡ cond (isNode k) 1 0) × (r ≤ 1) ⌝ }
+{
+    if crate::kinds::is_node(k) { 1 } else { 0 }
+}
+
+fn node_count(kinds: &[u8]) -> usize
+    ensures { λ r. ⌜ r ≡ sum (nodeAt (at (now (kinds .entry)))) (length (now (kinds .entry))) ⌝ }
+{
+    let mut n = 0usize;
+    let mut i = 0usize;
+    while i < kinds.len() {
+        n += node_or_none(kinds[i]);
+        i += 1;
+    }
+    n
+}
+
+// 7. Of at most 16 records no more than 16 nest, and of fewer nodes no more than they are.
 fn too_deep(kinds: &[u8], first: &[usize], next: &[usize]) -> bool
     requires { ⌜ LinkedIn (now kinds) (now first) (now next) ⌝ }
     requires { ⌜ 1 ≤ length (now first) ⌝ }
     ensures { λ r. ⌜ r ≡ ltb 15 (depthIn (now (kinds .entry)) (now (first .entry)) (now (next .entry)) (at (now (first .entry)) 0)) ⌝ }
 {
     if first.len() <= 16 {
+        return false;
+    }
+    if node_count(kinds) < 16 {
         return false;
     }
     deeper(kinds, first, next, first[0], 15)
