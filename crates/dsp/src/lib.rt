@@ -53,14 +53,14 @@ pub fn unit(state: u64) -> Drawn
     }
 }
 
-// In [-1, 1): white noise.
+// In [-1, 1): white noise. Twice n / 2^24 is n / 2^23, with a product less.
 pub fn bi(state: u64) -> Drawn
     ensures { λ r. ⌜ r ≡ record { state = stepped state; x = biOf state } ⌝ }
 {
-    let u = unit(state);
+    let w = next_u64(state);
     Drawn {
-        state: u.state,
-        x: u.x * 2.0 - 1.0,
+        state: w.state,
+        x: (w.word >> 40) as f32 / 8388608.0 - 1.0,
     }
 }
 
