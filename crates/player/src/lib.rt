@@ -690,9 +690,10 @@ fn begin(
         regs,
     );
     state::clear(scr, need);
+    let fresh = control::fresh_controls();
     Answer {
         answer: 0,
-        controls: control::fresh_controls(),
+        controls: fresh,
     }
 }
 
