@@ -2,11 +2,11 @@
 ghost use mathlib.Core.Path.{_≡_};
 ghost use lib.ListN.{length};
 ghost use Rattle.control.specs.Moves.{pitchMoved, bendMoved};
-ghost use Rattle.player.specs.Answer.{neededOf};
-ghost use Rattle.player.specs.Calls.{Fills, Cuts, Builds};
+ghost use Rattle.tables.specs.Answer.{neededOf};
+ghost use Rattle.calls.specs.Calls.{Fills, Cuts, Builds};
 
 #[no_mangle]
-pub extern "C" fn player_needs(sheet: &[u8]) -> player::Needed
+pub extern "C" fn player_needs(sheet: &[u8]) -> tables::Needed
     ensures { λ r. ⌜ r ≡ neededOf (now (sheet .entry)) ⌝ }
 {
     player::needs(sheet)
@@ -19,7 +19,7 @@ pub extern "C" fn player_build(
     cells: &mut [f32],
     regs: &mut [u64],
     scr: &mut [f32],
-) -> player::Answer
+) -> calls::Answer
     ensures { λ r. ⌜ Builds (now (sheet .entry)) c (now (cells .entry)) (now (regs .entry)) (now (scr .entry)) (r .answer) (r .controls) (now (cells .exit)) (now (regs .exit)) (now (scr .exit)) ⌝ }
 {
     player::build(sheet, c, cells, regs, scr)
@@ -33,7 +33,7 @@ pub extern "C" fn player_fill(
     cells: &mut [f32],
     regs: &mut [u64],
     scr: &mut [f32],
-) -> player::Answer
+) -> calls::Answer
     ensures { λ r. ⌜ Fills (now (sheet .entry)) c (now (out .entry)) (now (cells .entry)) (now (regs .entry)) (now (scr .entry)) (r .answer) (r .controls) (now (out .exit)) (now (cells .exit)) (now (regs .exit)) (now (scr .exit)) ⌝ }
 {
     player::fill(sheet, c, out, cells, regs, scr)

@@ -19,7 +19,7 @@ use Rattle.sheet.specs.Checks.{sum}
 use Rattle.sheet.specs.Laws.{both, never, sum-suc}
 use Rattle.machine.specs.Machine.{State, state, roomCheck, fillCheck, fillOf, cutoffOf, controlled, Call, fill, pitch, bend, cutoff, call, machine}
 use Rattle.machine.specs.Samples.{samples-length}
-use Rattle.player.specs.Calls.{Fills, Cuts}
+use Rattle.calls.specs.Calls.{Fills, Cuts}
 
 -- a call of a list, from its kind and numbers
 unfoldable pub callOf : ℕ → Float → Float → ℕ → Call

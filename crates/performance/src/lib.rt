@@ -18,25 +18,25 @@ fn one_call(
     cells: &mut [f32],
     regs: &mut [u64],
     scr: &mut [f32],
-) -> player::Answer
+) -> calls::Answer
     ensures { λ r. ⌜ Called (now (sheet .entry)) (callOf kind x g (length (now (out .entry)))) c (now (out .entry)) (now (cells .entry)) (now (regs .entry)) (now (scr .entry)) (r .answer) (r .controls) (now (out .exit)) (now (cells .exit)) (now (regs .exit)) (now (scr .exit)) ⌝ }
 {
     if kind == 0 {
         return player::fill(sheet, c, out, cells, regs, scr);
     }
     if kind == 1 {
-        return player::Answer {
+        return calls::Answer {
             answer: 0,
             controls: player::pitch(c, x, g),
         };
     }
     if kind == 2 {
-        return player::Answer {
+        return calls::Answer {
             answer: 0,
             controls: player::bend(c, x),
         };
     }
-    player::Answer {
+    calls::Answer {
         answer: player::cutoff(sheet, x, cells, regs, scr),
         controls: c,
     }

@@ -16,7 +16,7 @@ use Rattle.sheet.specs.Checks.{checkOf}
 use Rattle.machine.specs.Machine.{State, state, Answered, roomCheck}
 use Rattle.machine.specs.Laws.{room-passed}
 use Rattle.machine.specs.Build.{buildOf, begun}
-use Rattle.player.specs.Calls.{Builds}
+use Rattle.calls.specs.Calls.{Builds}
 use Rattle.render_voice.specs.Seconds.{isDigit, allDigits, decimalFrom, secondsFrom}
 
 -- ---- the argument, digit by digit

@@ -8,7 +8,7 @@ ghost use mathlib.Core.List.{_++_};
 ghost use Prim.Native.Nat.{_*_, _≤_, min};
 ghost use lib.ListN.{length, drop};
 ghost use Rattle.sheet.specs.Checks.{checkOf};
-ghost use Rattle.player.specs.Calls.{Fills};
+ghost use Rattle.calls.specs.Calls.{Fills};
 ghost use Rattle.wav.specs.Wav.{bytesOf};
 ghost use Rattle.render_voice.specs.Seconds.{secondsOf, samplesOf};
 
@@ -138,7 +138,7 @@ fn next_block(
     cells: &mut [f32],
     regs: &mut [u64],
     scr: &mut [f32],
-) -> player::Answer
+) -> calls::Answer
     requires { ⌜ 2 * length (now out) ≤ length (now bytes) ⌝ }
     ensures { λ r. ⌜ Fills (now (sheet .entry)) c (now (out .entry)) (now (cells .entry)) (now (regs .entry)) (now (scr .entry)) (r .answer) (r .controls) (now (out .exit)) (now (cells .exit)) (now (regs .exit)) (now (scr .exit)) ⌝ }
     ensures { λ r. ⌜ now (bytes .exit) ≡ bytesOf (now (out .exit)) ++ drop (2 * length (now (out .exit))) (now (bytes .entry)) ⌝ }

@@ -2,7 +2,7 @@
 use mathlib.Core.Path.{_≡_, sym, _∙_}
 use native.Mathlib.Omega.{arith}
 use Rattle.sheet.specs.Accepted.{rows-most}
-use Rattle.player.specs.Calls.{builds-refused}
+use Rattle.calls.specs.Calls.{builds-refused}
 use borrow.Author.Needs.{needs}
 use Rattle.player.proofs.build.Statement.{statement}
 use Rattle.player.proofs.build.Tie as tie

@@ -1,14 +1,13 @@
--- `player::begin` meets its contract. Assumes nothing.
+-- `calls::begin` meets its contract. Assumes nothing.
 use mathlib.Core.Path.{_≡_, _∙_}
 use Prim.Native.Nat.{_+_, _≤_, _<_}
 use native.Mathlib.Omega.{arith}
 use Rattle.machine.specs.Laws.{room-enough, room-passed}
-use Rattle.player.specs.Calls.{builds-all}
+use Rattle.calls.specs.Calls.{builds-all}
 use borrow.Author.Needs.{needs}
-use Rattle.player.proofs.begin.Statement.{statement}
-use Rattle.player.proofs.begin.Tie as tie
+use Rattle.calls.proofs.begin.Statement.{statement}
+use Rattle.calls.proofs.begin.Tie as tie
 
--- src/lib.rt:378:5
 paths-requires : tie.Need-paths-requires
 paths-requires c κs = let s = (c .before .before .before .before .before .before .before .before .before .before .before .before .before) in
     let S = s .args .sheet .now in
@@ -16,7 +15,6 @@ paths-requires c κs = let s = (c .before .before .before .before .before .befor
     let room = s .pre .1 in
     (m .passed, m .first-at, m .next-at, omega (arith, m .passed .small))
 
--- src/lib.rt:379:5
 start-all-requires : tie.Need-start-all-requires
 start-all-requires c κs = let s = (c .before .before .before .before .before .before .before .before .before .before .before .before .before .before .before .before .before .before) in
     let S = s .args .sheet .now in
@@ -25,7 +23,6 @@ start-all-requires c κs = let s = (c .before .before .before .before .before .b
     let r = room-enough S _ _ _ (room-passed S _ _ _ room .1) in
     ((m .passed, m .first-at, m .next-at, m .act-at), (m .cells-at, m .registers-at, (c .before .before .before .before .paths2) .ensures, rw (m .passed .count) (r .cells), rw (m .passed .count) (r .registers)))
 
--- src/lib.rt:380:5
 clear-requires : tie.Need-clear-requires
 clear-requires c κs = let s = (c .before .before .before .before .before .before .before .before .before .before .before .before .before .before .before .before .before .before .before .before .before .before .before .before) in
     let S = s .args .sheet .now in
@@ -34,7 +31,6 @@ clear-requires c κs = let s = (c .before .before .before .before .before .befor
     let r = room-enough S _ _ _ (room-passed S _ _ _ room .1) in
     omega (arith, s .pre .2, r .scratch)
 
--- src/lib.rt:357:1
 returns : tie.Need-returns
 returns c = let s = (c .before .before .before .before .before .before .before .before .before .before .before .before .before .before .before .before .before .before .before .before .before .before .before .before .before .before .before .before) in
     let S = s .args .sheet .now in

@@ -1,11 +1,11 @@
--- `player::run` meets its contract. Assumes nothing.
+-- `calls::run` meets its contract. Assumes nothing.
 use native.Mathlib.Omega.{arith}
 use lib.ListN.{length}
 use Rattle.streaming.specs.Run.{Buffer}
-use Rattle.player.specs.Calls.{left-most}
+use Rattle.calls.specs.Calls.{left-most}
 use borrow.Author.Needs.{needs}
-use Rattle.player.proofs.run.Statement.{statement}
-use Rattle.player.proofs.run.Tie as tie
+use Rattle.calls.proofs.run.Statement.{statement}
+use Rattle.calls.proofs.run.Tie as tie
 
 run-requires : tie.Need-run-requires
 run-requires c κs = let s = (c .before .before .before .before .before .before .before .before .before .before .before .before .before .before .before .before .before .before .before .before) in

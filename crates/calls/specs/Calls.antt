@@ -11,11 +11,9 @@ use lib.Ieee.{Float}
 use borrow.Author.Tests.{ne-eqb, leb-true, le-leb, lt-leb}
 use Rattle.control.specs.declared.Controls.{Controls}
 use Rattle.control.specs.Moves.{leftFor}
-use Rattle.sheet.specs.Record.{countOf, first, next}
-use Rattle.sheet.specs.Checks.{checkOf, lowest}
-use Rattle.layout.specs.Built.{role, begin, after}
+use Rattle.sheet.specs.Record.{countOf}
+use Rattle.sheet.specs.Checks.{lowest}
 use Rattle.layout.specs.Needs.{cellsFrom, registersFrom, scratchFrom}
-use Rattle.layout.specs.Tables.{Table, Passed, roleCode}
 use Rattle.unit.specs.Own.{silence}
 use Rattle.unit.specs.State.{ringsOk}
 use Rattle.walk.specs.Walk.{voiced, Sound}
@@ -25,6 +23,7 @@ use Rattle.machine.specs.Valid.{rings-all}
 use Rattle.machine.specs.Build.{buildOf, startedCells, startedRegisters}
 use Rattle.control.specs.Moves.{fresh}
 use Rattle.streaming.specs.Run.{Set, Blocked}
+use Rattle.tables.specs.Tables.{Made}
 
 -- ---- THE CONTRACTS: from the controls c and the lent cs, rs and zs, an answer a and controls r, and ds, ss and ws are left
 -- a fill of xs: where it is accepted its samples are ys, and where not xs is as it was
@@ -39,36 +38,6 @@ pub record Cuts (s : List ℕ) (x : Float) (cs : List Float) (nr ns a : ℕ) (ds
 
 pub record Builds (s : List ℕ) (c : Controls) (cs : List Float) (rs : List ℕ) (zs : List Float) (a : ℕ) (r : Controls) (ds : List Float) (ss : List ℕ) (ws : List Float) : Type 0 where
   pub is : _≡_ {A = Answered × State} ((a, []), state r ds ss ws) (buildOf s (state c cs rs zs))
-
--- ---- checks 1 to 8, and the tables that an accepted sheet leaves
-pub record Made (s : List ℕ) (count : ℕ) (firsts nexts acts begins afters places words blocks : List ℕ) : Type 0 where
-  pub passed : Passed s count
-  pub first-at : Table (first s) count firsts
-  pub next-at : Table (next s) count nexts
-  pub act-at : Table (λ j. roleCode (role s j)) count acts
-  pub begin-at : Table (begin s) count begins
-  pub after-at : Table (after s) count afters
-  pub cells-at : Table (cellsFrom s) (count + 1) places
-  pub registers-at : Table (registersFrom s) (count + 1) words
-  pub scratch-at : Table (scratchFrom s) (count + 1) blocks
-
-pub record Prepared (s : List ℕ) (nc nr ns : ℕ) (firsts nexts acts begins afters places words blocks : List ℕ) (a count need : ℕ) : Type 0 where
-  pub answer : a ≡ roomCheck s nc nr ns
-  pub made : a ≡ 0 → Made s count firsts nexts acts begins afters places words blocks
-  pub scratch : a ≡ 0 → need ≡ scratchFrom s (countOf s)
-
--- room by the numbers that the tables end with
-pub room-checked : (s : List ℕ) (nc nr ns c r x : ℕ) → checkOf s ≡ 0 → c ≡ cellsFrom s (countOf s) → r ≡ registersFrom s (countOf s) → x ≡ scratchFrom s (countOf s) → (b : Bool)
-    → (leb c nc && leb r nr && leb x ns) ≡ b → roomCheck s nc nr ns ≡ cond b 0 8
-unfolding roomCheck lowest
-room-checked s nc nr ns c r x e p q t b h = rw (e, ← p, ← q, ← t, h) (go b)
-  where
-    go : (b : Bool) → _≡_ {A = ℕ} (cond b 0 8) (cond b 0 8)
-    go b = refl
-
-pub sheet-checked : (s : List ℕ) (nc nr ns k : ℕ) → k ≡ checkOf s → k ≢ 0 → k ≡ roomCheck s nc nr ns
-unfolding roomCheck
-sheet-checked s nc nr ns k e d = e ∙ rw (ne-eqb (checkOf s) 0 (λ z. d (e ∙ z)))
 
 -- ---- a fill, check by check
 module _ (s : List ℕ) (c : Controls) (xs cs : List Float) (rs : List ℕ) (zs : List Float) where

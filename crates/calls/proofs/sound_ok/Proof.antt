@@ -1,12 +1,11 @@
--- `player::sound_ok` meets its contract. Assumes nothing.
+-- `calls::sound_ok` meets its contract. Assumes nothing.
 use mathlib.Core.Path.{_≡_, sym, _∙_}
 use Prim.Native.Nat.{_+_, _≤_, _<_}
 use Rattle.machine.specs.Laws.{room-enough, room-passed}
-use Rattle.player.specs.Calls.{sound-early, sound-late}
-use Rattle.player.proofs.sound_ok.Statement.{statement}
-use Rattle.player.proofs.sound_ok.Tie as tie
+use Rattle.calls.specs.Calls.{sound-early, sound-late}
+use Rattle.calls.proofs.sound_ok.Statement.{statement}
+use Rattle.calls.proofs.sound_ok.Tie as tie
 
--- src/lib.rt:170:9
 returns : tie.Need-returns
 returns c = let s = (c .before .before .before .before .before .before .before .before .before .before .before .before .before) in
     let S = s .args .sheet .now in
@@ -14,7 +13,6 @@ returns c = let s = (c .before .before .before .before .before .before .before .
     let room = s .pre .1 in
     sym (sound-late S (s .args .c) _ _ ((c .if1) .taken))
 
--- src/lib.rt:172:5
 rings-ok-requires : tie.Need-rings-ok-requires
 rings-ok-requires c κs = let s = (c .before .before .before .before .before .before .before .before .before .before .before .before .before) in
     let S = s .args .sheet .now in
@@ -23,7 +21,6 @@ rings-ok-requires c κs = let s = (c .before .before .before .before .before .be
     let r = room-enough S _ _ _ (room-passed S _ _ _ room .1) in
     (m .passed, m .act-at, m .cells-at, m .registers-at, rw (m .passed .count) (r .cells), rw (m .passed .count) (r .registers))
 
--- src/lib.rt:150:1
 returns-2 : tie.Need-returns-2
 returns-2 c = let s = (c .before .before .before .before .before .before .before .before .before .before .before .before .before .before) in
     let S = s .args .sheet .now in

@@ -1,0 +1,159 @@
+// Checks 1 to 8, and the tables that an accepted sheet leaves: its links, what each record is, and where its memory begins.
+ghost use mathlib.Core.Path.{_≡_};
+ghost use Prim.Native.Nat.{_+_, _≤_, _<_};
+ghost use lib.ListN.{length};
+ghost use Rattle.sheet.specs.Links.{Rows};
+ghost use Rattle.tables.specs.Answer.{neededOf};
+ghost use Rattle.tables.specs.Tables.{Made, Prepared};
+
+// The refusal's number, or 0, and how much memory the sheet needs to be lent: nothing where it is refused.
+#[repr(C)]
+pub struct Needed {
+    pub refusal: u8,
+    pub cells: u64,
+    pub registers: u64,
+    pub scratch: u64,
+}
+
+// What a sheet needs, and its number of records where it is accepted.
+pub struct Measured {
+    pub needed: Needed,
+    pub count: usize,
+}
+
+// Checks 1 to 7. Where none applies, the tables are set.
+pub fn measure(
+    sheet: &[u8],
+    kinds: &mut [u8],
+    firsts: &mut [usize],
+    nexts: &mut [usize],
+    lasts: &mut [u8],
+    acts: &mut [u8],
+    begins: &mut [usize],
+    afters: &mut [usize],
+    places: &mut [usize],
+    words: &mut [usize],
+    blocks: &mut [usize],
+) -> Measured
+    requires { ⌜ Rows (now sheet) (length (now kinds)) × (length (now kinds) ≤ length (now firsts)) × (length (now kinds) ≤ length (now nexts)) × (length (now kinds) ≤ length (now lasts)) × (length (now kinds) ≤ length (now acts)) × (length (now kinds) ≤ length (now begins)) × (length (now kinds) ≤ length (now afters)) × (length (now kinds) < length (now places)) × (length (now kinds) < length (now words)) × (length (now kinds) < length (now blocks)) ⌝ }
+    ensures { λ r. ⌜ (r .needed ≡ neededOf (now (sheet .entry))) × (r .needed .refusal ≡ 0 → Made (now (sheet .entry)) (r .count) (now (firsts .exit)) (now (nexts .exit)) (now (acts .exit)) (now (begins .exit)) (now (afters .exit)) (now (places .exit)) (now (words .exit)) (now (blocks .exit))) ⌝ }
+{
+    let refusal = sheet::check(sheet, kinds, firsts, nexts);
+    if refusal != 0 {
+        return Measured {
+            needed: Needed {
+                refusal,
+                cells: 0,
+                registers: 0,
+                scratch: 0,
+            },
+            count: 0,
+        };
+    }
+    let count = sheet::count(sheet);
+    // The passes of the plan are lent the tables that are set after it.
+    layout::built::plan(
+        sheet,
+        count,
+        kinds,
+        firsts,
+        nexts,
+        places,
+        lasts,
+        words,
+        acts,
+        begins,
+        afters,
+    );
+    let n = layout::needs::offsets(
+        sheet,
+        count,
+        kinds,
+        firsts,
+        nexts,
+        acts,
+        places,
+        words,
+        blocks,
+    );
+    Measured {
+        needed: Needed {
+            refusal,
+            cells: n.cells,
+            registers: n.registers,
+            scratch: n.scratch,
+        },
+        count,
+    }
+}
+
+// The refusal's number, or 0, and then the number of records and how much scratch they need.
+pub struct Ready {
+    pub refusal: u8,
+    pub count: usize,
+    pub scratch: usize,
+}
+
+// Checks 1 to 8. Where none applies, the tables are set.
+pub fn prepare(
+    sheet: &[u8],
+    cells: usize,
+    regs: usize,
+    scr: usize,
+    kinds: &mut [u8],
+    firsts: &mut [usize],
+    nexts: &mut [usize],
+    lasts: &mut [u8],
+    acts: &mut [u8],
+    begins: &mut [usize],
+    afters: &mut [usize],
+    places: &mut [usize],
+    words: &mut [usize],
+    blocks: &mut [usize],
+) -> Ready
+    requires { ⌜ Rows (now sheet) (length (now kinds)) × (length (now kinds) ≤ length (now firsts)) × (length (now kinds) ≤ length (now nexts)) × (length (now kinds) ≤ length (now lasts)) × (length (now kinds) ≤ length (now acts)) × (length (now kinds) ≤ length (now begins)) × (length (now kinds) ≤ length (now afters)) × (length (now kinds) < length (now places)) × (length (now kinds) < length (now words)) × (length (now kinds) < length (now blocks)) ⌝ }
+    ensures { λ r. ⌜ Prepared (now (sheet .entry)) cells regs scr (now (firsts .exit)) (now (nexts .exit)) (now (acts .exit)) (now (begins .exit)) (now (afters .exit)) (now (places .exit)) (now (words .exit)) (now (blocks .exit)) (r .refusal) (r .count) (r .scratch) ⌝ }
+{
+    let m = measure(
+        sheet,
+        kinds,
+        firsts,
+        nexts,
+        lasts,
+        acts,
+        begins,
+        afters,
+        places,
+        words,
+        blocks,
+    );
+    let refusal = m.needed.refusal;
+    if refusal != 0 {
+        return Ready {
+            refusal,
+            count: 0,
+            scratch: 0,
+        };
+    }
+    let count = m.count;
+    let scratch = m.needed.scratch as usize;
+    if machine::room_ok(
+        m.needed.cells as usize,
+        cells,
+        m.needed.registers as usize,
+        regs,
+        scratch,
+        scr,
+    ) {
+        return Ready {
+            refusal: 0,
+            count,
+            scratch,
+        };
+    }
+    Ready {
+        refusal: 8,
+        count,
+        scratch,
+    }
+}
