@@ -420,8 +420,10 @@ pub fn ln(x: f64) -> f64
     ln_normal(x, 0.0)
 }
 
-// The bases 0 and below 0 are set apart: ln is infinite or a NaN there.
-pub fn powf(x: f64, y: f64) -> f64
+// x to the power y by l, the logarithm of x: a caller with one base and many exponents works it out once. The bases 0 and
+// below 0 are set apart: ln is infinite or a NaN there.
+pub fn powf_by(x: f64, l: f64, y: f64) -> f64
+    requires { ⌜ l ≡ lnOf x ⌝ }
     ensures { λ r. ⌜ r ≡ powOf x y ⌝ }
 {
     if y == 0.0 {
@@ -433,7 +435,13 @@ pub fn powf(x: f64, y: f64) -> f64
     if x < 0.0 {
         return 0.0 / 0.0;
     }
-    exp(y * ln(x))
+    exp(y * l)
+}
+
+pub fn powf(x: f64, y: f64) -> f64
+    ensures { λ r. ⌜ r ≡ powOf x y ⌝ }
+{
+    powf_by(x, ln(x), y)
 }
 
 // ln(10.0): what `ln` answers there.
@@ -517,6 +525,13 @@ pub fn powff(x: f32, y: f32) -> f32
     ensures { λ r. ⌜ r ≡ narrowOf (powOf x y) ⌝ }
 {
     cast::f64_to_f32(powf(cast::f32_to_f64(x), cast::f32_to_f64(y)))
+}
+
+pub fn powff_by(x: f32, l: f64, y: f32) -> f32
+    requires { ⌜ l ≡ lnOf x ⌝ }
+    ensures { λ r. ⌜ r ≡ narrowOf (powOf x y) ⌝ }
+{
+    cast::f64_to_f32(powf_by(cast::f32_to_f64(x), l, cast::f32_to_f64(y)))
 }
 
 pub fn pow10f(y: f32) -> f32

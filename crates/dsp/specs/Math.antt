@@ -19,6 +19,10 @@ exponential x = narrowOf (expOf x)
 abbrev pub logarithm : Float → Float
 logarithm x = narrowOf (lnOf x)
 
+-- before it is rounded, as det.rs's power takes it
+abbrev pub wideLogarithm : Float → Float
+wideLogarithm x = lnOf x
+
 abbrev pub power : Float → Float → Float
 power x y = narrowOf (powOf x y)
 

@@ -2,7 +2,7 @@ ghost use mathlib.Core.Path.{_≡_};
 ghost use mathlib.Core.List.{map};
 ghost use lib.Ieee as Ieee;
 ghost use lib.Ieee.{binary32};
-ghost use Rattle.dsp.specs.Math.{sine, cosine, exponential, logarithm1p, power, tangent, logarithm10};
+ghost use Rattle.dsp.specs.Math.{sine, cosine, exponential, logarithm1p, wideLogarithm, power, tangent, logarithm10};
 ghost use Rattle.dsp.specs.Random.{mixed, stepped, drawn, unitOf, biOf, rangeOf, pathOf, seedOf, randSeedOf};
 ghost use Rattle.dsp.specs.Envelope.{through, level, adsrOf};
 ghost use Rattle.dsp.specs.Coefficients.{onePoleOf, followerOf, modalOf, feedbackOf};
@@ -187,6 +187,21 @@ pub fn powf(x: f32, y: f32) -> f32
     ensures { λ r. ⌜ r ≡ power x y ⌝ }
 {
     det::powff(x, y)
+}
+
+// x to the power y by l, which `ln_wide` gives for x.
+pub fn powf_by(x: f32, l: f64, y: f32) -> f32
+    requires { ⌜ l ≡ wideLogarithm x ⌝ }
+    ensures { λ r. ⌜ r ≡ power x y ⌝ }
+{
+    det::powff_by(x, l, y)
+}
+
+// The logarithm as det.rs works it out, before it is rounded.
+pub fn ln_wide(x: f32) -> f64
+    ensures { λ r. ⌜ r ≡ wideLogarithm x ⌝ }
+{
+    det::ln(cast::f32_to_f64(x))
 }
 
 pub fn pow10(y: f32) -> f32

@@ -7,7 +7,11 @@ ghost use lib.Dec.{T};
 ghost use lib.IntN.{pos};
 ghost use lib.Ieee as Ieee;
 ghost use lib.Ieee.{fin};
-ghost use Rattle.value.specs.Modulators.{secondsOf, slideSecs, slideAt, slideOf, lfoPhase, lfoOf, arpIndex, arpOf, releaseStart, envModOf, randIncrement, randOut, randTurn, randNext};
+ghost use Rattle.value.specs.Modulators.{secondsOf, slideSecs, slideExp, slideAt, slideOf, lfoPhase, lfoOf, arpIndex, arpOf, releaseStart, envModOf, randIncrement, randOut, randTurn, randNext};
+ghost use Rattle.value.specs.Ease.{Eased};
+ghost use Rattle.float.specs.Single.{_⊘_, zero as zeroF, one};
+ghost use Rattle.float.specs.Order.{clampOf};
+ghost use Rattle.dsp.specs.Math.{wideLogarithm};
 
 // The position in seconds.
 pub fn seconds(t: u64, srf: f32) -> f32
@@ -37,30 +41,75 @@ fn lerp(from: f32, to: f32, p: f32) -> f32
     from + (to - from) * p
 }
 
-fn slide_exp(from: f32, to: f32, p: f32) -> f32
-    ensures { λ r. ⌜ r ≡ Rattle.value.specs.Modulators.slideExp from to p ⌝ }
+// p of the way, by the logarithm of to / from.
+fn slide_exp(from: f32, to: f32, log: f64, p: f32) -> f32
+    requires { ⌜ log ≡ wideLogarithm (to ⊘ from) ⌝ }
+    ensures { λ r. ⌜ r ≡ slideExp from to p ⌝ }
 {
     if from > 0.0 && to > 0.0 {
-        from * dsp::powf(to / from, p)
+        from * dsp::powf_by(to / from, log, p)
     } else {
         lerp(from, to, p * p)
     }
 }
 
-pub fn slide_at(curve: dsl::Curve, from: f32, to: f32, secs: f32, x: f32) -> f32
+// What an exponential slide has at every position: the logarithm of its ratio, and its end. A linear one needs neither.
+pub struct Ease {
+    pub log: f64,
+    pub end: f32,
+}
+
+pub fn ease_of(curve: dsl::Curve, from: f32, to: f32) -> Ease
+    ensures { λ r. ⌜ Eased curve from to (r .log) (r .end) ⌝ }
+{
+    match curve {
+        dsl::Curve::Lin => Ease { log: 0.0, end: 0.0 },
+        dsl::Curve::Exp => {
+            let log = dsp::ln_wide(to / from);
+            Ease {
+                log,
+                end: slide_exp(from, to, log, 1.0),
+            }
+        }
+    }
+}
+
+// y is the part of the seconds that has passed: beyond 1 the slide stays where it ends.
+fn slide_eased(from: f32, to: f32, log: f64, end: f32, y: f32) -> f32
+    requires { ⌜ (log ≡ wideLogarithm (to ⊘ from)) × (end ≡ slideExp from to one) ⌝ }
+    ensures { λ r. ⌜ r ≡ slideExp from to (clampOf y zeroF one) ⌝ }
+{
+    if y < 0.0 {
+        return slide_exp(from, to, log, 0.0);
+    }
+    if y > 1.0 {
+        return end;
+    }
+    slide_exp(from, to, log, y)
+}
+
+pub fn slide_at(curve: dsl::Curve, from: f32, to: f32, e: Ease, secs: f32, x: f32) -> f32
+    requires { ⌜ Eased curve from to (e .log) (e .end) ⌝ }
     ensures { λ r. ⌜ r ≡ slideAt curve from to secs x ⌝ }
 {
-    let p = float::clamp(x / secs, 0.0, 1.0);
+    let y = x / secs;
     match curve {
-        dsl::Curve::Lin => lerp(from, to, p),
-        dsl::Curve::Exp => slide_exp(from, to, p),
+        dsl::Curve::Lin => lerp(from, to, float::clamp(y, 0.0, 1.0)),
+        dsl::Curve::Exp => slide_eased(from, to, e.log, e.end, y),
     }
 }
 
 pub fn slide(curve: dsl::Curve, from: f32, to: f32, secs: f32, srf: f32, t: u64) -> f32
     ensures { λ r. ⌜ r ≡ slideOf curve from to secs srf t ⌝ }
 {
-    slide_at(curve, from, to, secs, seconds(t, srf))
+    slide_at(
+        curve,
+        from,
+        to,
+        ease_of(curve, from, to),
+        secs,
+        seconds(t, srf),
+    )
 }
 
 // The fraction of the turns made: `fract`, not floor, so that a negative rate has a negative phase, as in the Rust.

@@ -4,14 +4,24 @@ ghost use Prim.Native.Nat.{_+_, _^_, _≤_, _<_};
 ghost use lib.ListN.{length};
 ghost use Rattle.dsl.specs.declared.Shape.the-variants.{Sine};
 ghost use Rattle.block.specs.Iterate.{given, after};
+ghost use Rattle.value.specs.Ease.{Eased};
 ghost use Rattle.value_block.specs.Steps.{slideStep, lfoStep, lfoArgumentStep, lfoLevelStep, envModStep, randStep};
 
 const TAU: f32 = 6.2831855;
 
 // A block whose positions are all below 2^24: the general conversion of a position, worked out for every sample of a
 // vectorised loop, takes longer than the rest.
-fn slide_early(out: &mut [f32], curve: dsl::Curve, from: f32, to: f32, secs: f32, srf: f32, t: u64)
-    requires { ⌜ (t + length (now out) ≤ 16777216) ⌝ }
+fn slide_early(
+    out: &mut [f32],
+    curve: dsl::Curve,
+    from: f32,
+    to: f32,
+    e: value::Ease,
+    secs: f32,
+    srf: f32,
+    t: u64,
+)
+    requires { ⌜ (t + length (now out) ≤ 16777216) × Eased curve from to (e .log) (e .end) ⌝ }
     ensures { λ v. ⌜ (now (out .exit) ≡ given (slideStep curve from to secs srf t) tt (length (now (out .entry)))) ⌝ }
 {
     let mut k: usize = 0;
@@ -20,6 +30,7 @@ fn slide_early(out: &mut [f32], curve: dsl::Curve, from: f32, to: f32, secs: f32
             curve,
             from,
             to,
+            e,
             secs,
             value::seconds_small(t + (k as u64), srf),
         );
@@ -27,13 +38,29 @@ fn slide_early(out: &mut [f32], curve: dsl::Curve, from: f32, to: f32, secs: f32
     }
 }
 
-fn slide_any(out: &mut [f32], curve: dsl::Curve, from: f32, to: f32, secs: f32, srf: f32, t: u64)
-    requires { ⌜ (t + length (now out) < 2 ^ 64) ⌝ }
+fn slide_any(
+    out: &mut [f32],
+    curve: dsl::Curve,
+    from: f32,
+    to: f32,
+    e: value::Ease,
+    secs: f32,
+    srf: f32,
+    t: u64,
+)
+    requires { ⌜ (t + length (now out) < 2 ^ 64) × Eased curve from to (e .log) (e .end) ⌝ }
     ensures { λ v. ⌜ (now (out .exit) ≡ given (slideStep curve from to secs srf t) tt (length (now (out .entry)))) ⌝ }
 {
     let mut k: usize = 0;
     while k < out.len() {
-        out[k] = value::slide(curve, from, to, secs, srf, t + (k as u64));
+        out[k] = value::slide_at(
+            curve,
+            from,
+            to,
+            e,
+            secs,
+            value::seconds(t + (k as u64), srf),
+        );
         k += 1;
     }
 }
@@ -51,10 +78,11 @@ pub fn slide_block(
     requires { ⌜ (t + length (now out) < 2 ^ 64) ⌝ }
     ensures { λ v. ⌜ (now (out .exit) ≡ given (slideStep curve from to secs srf t) tt (length (now (out .entry)))) ⌝ }
 {
+    let e = value::ease_of(curve, from, to);
     if t + (out.len() as u64) <= 16777216 {
-        slide_early(out, curve, from, to, secs, srf, t);
+        slide_early(out, curve, from, to, e, secs, srf, t);
     } else {
-        slide_any(out, curve, from, to, secs, srf, t);
+        slide_any(out, curve, from, to, e, secs, srf, t);
     }
 }
 

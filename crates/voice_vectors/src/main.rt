@@ -6,7 +6,7 @@ use libc::STDOUT_FILENO;
 ghost use mathlib.Core.Path.{_≡_};
 ghost use Prim.Native.Nat.{_^_, _<_, _≤_};
 ghost use lib.ListN.{length, take};
-ghost use Rattle.voice_vectors.specs.Hash.{basis, mixed, hashed, same, bitsOf, stateOf};
+ghost use Rattle.hash.specs.Hash.{basis, hashed, bitsOf};
 
 struct Head {
     sheet: usize,
@@ -50,55 +50,6 @@ struct Run {
     differences: u64,
     at: u64,
     first: Outcome,
-}
-
-// ---- the hash
-
-const BASIS: u64 = 0xcbf2_9ce4_8422_2325;
-
-fn mix(h: u64, w: u64) -> u64
-    ensures { λ r. ⌜ r ≡ mixed h w ⌝ }
-{
-    word::wrapping_mul(word::xor(h, w), 0x100_0000_01b3)
-}
-
-fn mix_float(h: u64, x: f32) -> u64
-    ensures { λ r. ⌜ r ≡ mixed h (bitsOf x) ⌝ }
-{
-    mix(h, float::to_bits(x) as u64)
-}
-
-fn hash_words(first: u64, words: &[u64]) -> u64
-    ensures { λ r. ⌜ r ≡ hashed same first (now (words .entry)) ⌝ }
-{
-    let mut h = first;
-    let mut k: usize = 0;
-    while k < words.len() {
-        h = mix(h, words[k]);
-        k += 1;
-    }
-    h
-}
-
-fn hash_floats(first: u64, xs: &[f32]) -> u64
-    ensures { λ r. ⌜ r ≡ hashed bitsOf first (now (xs .entry)) ⌝ }
-{
-    let mut h = first;
-    let mut k: usize = 0;
-    while k < xs.len() {
-        h = mix_float(h, xs[k]);
-        k += 1;
-    }
-    h
-}
-
-// What a voice leaves: its controls, and the cells, registers and scratch that it needs.
-fn hash_state(c: control::Controls, cells: &[f32], regs: &[u64], scr: &[f32]) -> u64
-    ensures { λ r. ⌜ r ≡ stateOf c (now (cells .entry)) (now (regs .entry)) (now (scr .entry)) ⌝ }
-{
-    let a = mix_float(mix(BASIS, c.position), c.pitch);
-    let b = mix_float(mix_float(mix_float(a, c.target), c.glide), c.bend);
-    hash_floats(hash_words(hash_floats(b, cells), regs), scr)
 }
 
 // ---- reading a case
@@ -215,7 +166,7 @@ fn sound_of(kinds: &[u8], lens: &[usize], out: &[f32]) -> Sound
     let m = filled(kinds, lens, out.len());
     Sound {
         samples: m as u64,
-        hash: hash_floats(BASIS, &out[..m]),
+        hash: hash::hash_floats(hash::BASIS, &out[..m]),
     }
 }
 
@@ -231,7 +182,7 @@ fn state_of(sheet: &[u8], c: control::Controls, cells: &[f32], regs: &[u64], scr
     let m = least(needed.cells, cells.len());
     let r = least(needed.registers, regs.len());
     let s = least(needed.scratch, scr.len());
-    hash_state(c, &cells[..m], &regs[..r], &scr[..s])
+    hash::hash_state(c, &cells[..m], &regs[..r], &scr[..s])
 }
 
 fn not_played(whole: bool) -> Outcome {

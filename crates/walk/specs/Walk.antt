@@ -32,14 +32,8 @@ use Rattle.unit.specs.State.{ownOk}
 use Rattle.unit.specs.Sound.{OwnSound, UnitsKeep, voice-valid, units-keep}
 use Rattle.unit.specs.Block.{Pitched, Ran, Lent}
 use Rattle.units.specs.Values.{hasUnit}
+use Rattle.mixer.specs.Part.{mid, put}
 use Rattle.walk.specs.Nodes.{Member, begin-member, after-member}
-
--- a part of a list, and the list with another in its place
-abbrev pub mid : ℕ → ℕ → List Float → List Float
-mid a n xs = take n (drop a xs)
-
-abbrev pub put : ℕ → ℕ → List Float → List Float → List Float
-put a n xs ys = take a xs ++ (ys ++ drop n (drop a xs))
 
 -- the cells and registers are long enough, and check 9 does not apply to them
 abbrev pub Sound : List ℕ → List Float → List ℕ → Type 0

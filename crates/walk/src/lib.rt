@@ -13,68 +13,7 @@ ghost use Rattle.unit.specs.Voice.{joinOf, emptyOf};
 ghost use Rattle.units.specs.Values.{valuesOf, buffersOf};
 ghost use mathlib.Core.Logic.{_≢_};
 ghost use Rattle.walk.specs.Nodes.{Node};
-ghost use Rattle.walk.specs.Walk.{Ready, Scratch, Sound, Lends, Valued, Played, Leafed, Sourced, Chained, Mixed, put, mid};
-
-// Mix adds, Mul multiplies.
-fn join(kind: u8, a: f32, b: f32) -> f32
-    ensures { λ r. ⌜ r ≡ joinOf kind a b ⌝ }
-{
-    if kind == 12 { a * b } else { a + b }
-}
-
-// What no inputs come to.
-fn empty(kind: u8) -> f32
-    ensures { λ r. ⌜ r ≡ emptyOf kind ⌝ }
-{
-    if kind == 12 { 1.0 } else { 0.0 }
-}
-
-fn join_into(kind: u8, acc: &mut [f32], x: &[f32])
-    requires { ⌜ length (now acc) ≡ length (now x) ⌝ }
-    ensures { λ r. ⌜ now (acc .exit) ≡ zip (joinOf kind) (now (acc .entry)) (now (x .entry)) ⌝ }
-{
-    let mut k: usize = 0;
-    while k < acc.len() {
-        acc[k] = join(kind, acc[k], x[k]);
-        k += 1;
-    }
-}
-
-fn copy_from(out: &mut [f32], x: &[f32])
-    requires { ⌜ length (now out) ≡ length (now x) ⌝ }
-    ensures { λ r. ⌜ now (out .exit) ≡ now (x .entry) ⌝ }
-{
-    let mut k: usize = 0;
-    while k < out.len() {
-        out[k] = x[k];
-        k += 1;
-    }
-}
-
-// The n numbers of the scratch from at on: filled, joined to, and taken.
-fn scratch_fill(scr: &mut [f32], at: usize, n: usize, x: f32)
-    requires { ⌜ at + n ≤ length (now scr) ⌝ }
-    ensures { λ r. ⌜ now (scr .exit) ≡ put at n (now (scr .entry)) (map (λ y. x) (mid at n (now (scr .entry)))) ⌝ }
-{
-    let e = at + n;
-    block::fill_block(&mut scr[at..e], x);
-}
-
-fn scratch_join(kind: u8, scr: &mut [f32], at: usize, x: &[f32])
-    requires { ⌜ at + length (now x) ≤ length (now scr) ⌝ }
-    ensures { λ r. ⌜ now (scr .exit) ≡ put at (length (now (x .entry))) (now (scr .entry)) (zip (joinOf kind) (mid at (length (now (x .entry))) (now (scr .entry))) (now (x .entry))) ⌝ }
-{
-    let e = at + x.len();
-    join_into(kind, &mut scr[at..e], x);
-}
-
-fn scratch_take(out: &mut [f32], scr: &[f32], at: usize)
-    requires { ⌜ at + length (now out) ≤ length (now scr) ⌝ }
-    ensures { λ r. ⌜ now (out .exit) ≡ mid at (length (now (out .entry))) (now (scr .entry)) ⌝ }
-{
-    let e = at + out.len();
-    copy_from(out, &scr[at..e]);
-}
+ghost use Rattle.walk.specs.Walk.{Ready, Scratch, Sound, Lends, Valued, Played, Leafed, Sourced, Chained, Mixed};
 
 fn is_fold(kind: u8) -> bool
     ensures { λ r. ⌜ r ≡ isFold kind ⌝ }
@@ -261,7 +200,7 @@ pub fn source(
     let k = sheet::kind_at(sheet, i);
     if is_fold(k) {
         let at = blocks[i];
-        scratch_fill(scr, at, out.len(), empty(k));
+        mixer::scratch_fill(scr, at, out.len(), mixer::empty(k));
         mix(
             sheet,
             count,
@@ -282,7 +221,7 @@ pub fn source(
             regs,
             scr,
         );
-        scratch_take(out, scr, at);
+        mixer::scratch_take(out, scr, at);
         return;
     }
     if k == 13 {
@@ -452,7 +391,7 @@ fn mix(
                 regs,
                 scr,
             );
-            scratch_join(k, scr, at, out);
+            mixer::scratch_join(k, scr, at, out);
             j = afters[j];
             continue;
         }
@@ -474,7 +413,7 @@ fn mix(
             cells,
             regs,
         );
-        scratch_join(k, scr, at, out);
+        mixer::scratch_join(k, scr, at, out);
         j = afters[j];
     }
 }

@@ -9,4 +9,4 @@ unfolding slideOf
 returns c = rw (c .slide-at .ensures, c .before .seconds .ensures)
 
 pub slide-spec : {M : Type 1} → statement M
-slide-spec = tie.close (tie.spec (λ c κs. search needs) (λ c κs. search needs) returns)
+slide-spec = tie.close (tie.spec (λ c κs. search needs) (λ c κs. search needs) (λ c κs. c .before .ease-of .ensures) returns)

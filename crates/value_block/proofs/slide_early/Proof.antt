@@ -12,10 +12,10 @@ use Rattle.value_block.proofs.slide_early.Statement.{statement}
 use Rattle.value_block.proofs.slide_early.Tie as tie
 
 abbrev Inv-loop : tie.InvT-loop
-Inv-loop out₀ curve from to secs srf t k₀ out k = Going nan (slideStep curve from to secs srf t) tt out₀ k out tt
+Inv-loop out₀ curve from to e secs srf t k₀ out k = Going nan (slideStep curve from to secs srf t) tt out₀ k out tt
 
 abbrev μ-loop : tie.MeasureT-loop
-μ-loop out₀ curve from to secs srf t k₀ out k = length out₀ - k
+μ-loop out₀ curve from to e secs srf t k₀ out k = length out₀ - k
 
 loop-holds : tie.Need-loop-holds Inv-loop μ-loop
 loop-holds c = going-start nan _ _ _
