@@ -106,7 +106,7 @@ pub extern "C" fn block_check(
     requires { ⌜ Rows (now sheet) (length (now kinds)) × (length (now kinds) ≤ length (now first)) × (length (now kinds) ≤ length (now next)) ⌝ }
     ensures { λ r. ⌜ Checked (now (sheet .entry)) (now (kinds .exit)) (now (first .exit)) (now (next .exit)) r ⌝ }
 {
-    sheet::check(sheet, kinds, first, next)
+    checks::check(sheet, kinds, first, next)
 }
 
 // Record i of a sheet that passes the checks; an Arp owns no cells and no registers.

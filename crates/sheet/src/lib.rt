@@ -1,6 +1,5 @@
 // The patch sheet: a header of 24 bytes, then records of 40 bytes. A record is read from the part of the sheet that
 // starts at its first byte, `&sheet[24 + 40 * i..]`.
-mod checks;
 pub mod kinds;
 
 ghost use mathlib.Core.Path.{_≡_};
@@ -9,8 +8,6 @@ ghost use lib.ListN.{length};
 ghost use Rattle.sheet.specs.Bytes.{u16At, u32At, u64At};
 ghost use Rattle.sheet.specs.Record.{countOf, rateOf, lengthOf, pathOf, kindOf, optionOf, firstOf, nextOf, bitsOf, numberOf, seedOf, kind as recordKind};
 ghost use Rattle.sheet.specs.Value.{valueOf};
-ghost use Rattle.sheet.specs.Checks.{checkOf};
-ghost use Rattle.sheet.specs.Links.{Rows, Checked};
 
 fn wide(x: u8) -> u32
     ensures { λ r. ⌜ (r ≡ x) × (r < 256) ⌝ }
@@ -19,7 +16,7 @@ fn wide(x: u8) -> u32
 }
 
 // Two, four and eight bytes as a number, the lowest first.
-fn half(s: &[u8], at: usize) -> u32
+pub fn half(s: &[u8], at: usize) -> u32
     requires { ⌜ at + 2 ≤ length (now s) ⌝ }
     ensures { λ r. ⌜ (r ≡ u16At (now (s .entry)) at) × (r < 65536) ⌝ }
 {
@@ -33,7 +30,7 @@ fn word(s: &[u8], at: usize) -> u32
     half(s, at) + 65536 * half(s, at + 2)
 }
 
-fn double(s: &[u8], at: usize) -> u64
+pub fn double(s: &[u8], at: usize) -> u64
     requires { ⌜ at + 8 ≤ length (now s) ⌝ }
     ensures { λ r. ⌜ r ≡ u64At (now (s .entry)) at ⌝ }
 {
@@ -211,36 +208,4 @@ pub fn read_value(r: &[u8]) -> Value
         },
         _ => Value::Const(number(r, 0)),
     }
-}
-
-// ---- the checks of document 01
-
-// The lowest of checks 1 to 7 that applies, or 0. Where it is 0 the tables hold the kind and the links of every record;
-// after a refusal nothing is promised of them but their lengths.
-pub fn check(sheet: &[u8], kinds: &mut [u8], first: &mut [usize], next: &mut [usize]) -> u8
-    requires { ⌜ Rows (now sheet) (length (now kinds)) × (length (now kinds) ≤ length (now first)) × (length (now kinds) ≤ length (now next)) ⌝ }
-    ensures { λ r. ⌜ Checked (now (sheet .entry)) (now (kinds .exit)) (now (first .exit)) (now (next .exit)) r ⌝ }
-{
-    if checks::length_ok(sheet) {
-        if checks::header_ok(sheet) {
-            let n = count(sheet);
-            let fault = checks::decode(sheet, n, kinds, first, next);
-            if fault != 0 {
-                return fault;
-            }
-            return checks::shape(&kinds[..n], &first[..n], &next[..n]);
-        }
-        return 2;
-    }
-    1
-}
-
-// The same with tables of its own.
-pub fn accepted(sheet: &[u8]) -> u8
-    ensures { λ r. ⌜ r ≡ checkOf (now (sheet .entry)) ⌝ }
-{
-    let mut kinds = [0u8; 256];
-    let mut first = [0usize; 256];
-    let mut next = [0usize; 256];
-    check(sheet, &mut kinds, &mut first, &mut next)
 }

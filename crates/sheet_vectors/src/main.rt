@@ -93,7 +93,7 @@ fn step(run: Run, buf: &mut [u8], counts: &mut [u64]) -> Run {
     if io::read_full(STDIN_FILENO, &mut buf[..n]) < n {
         return ended(run, false);
     }
-    let answered = sheet::accepted(&buf[..n]);
+    let answered = checks::accepted(&buf[..n]);
     raise(counts, answered);
     counted(run, head[4], answered)
 }

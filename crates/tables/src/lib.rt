@@ -38,7 +38,7 @@ pub fn measure(
     requires { ⌜ Rows (now sheet) (length (now kinds)) × (length (now kinds) ≤ length (now firsts)) × (length (now kinds) ≤ length (now nexts)) × (length (now kinds) ≤ length (now lasts)) × (length (now kinds) ≤ length (now acts)) × (length (now kinds) ≤ length (now begins)) × (length (now kinds) ≤ length (now afters)) × (length (now kinds) < length (now places)) × (length (now kinds) < length (now words)) × (length (now kinds) < length (now blocks)) ⌝ }
     ensures { λ r. ⌜ (r .needed ≡ neededOf (now (sheet .entry))) × (r .needed .refusal ≡ 0 → Made (now (sheet .entry)) (r .count) (now (firsts .exit)) (now (nexts .exit)) (now (acts .exit)) (now (begins .exit)) (now (afters .exit)) (now (places .exit)) (now (words .exit)) (now (blocks .exit))) ⌝ }
 {
-    let refusal = sheet::check(sheet, kinds, firsts, nexts);
+    let refusal = checks::check(sheet, kinds, firsts, nexts);
     if refusal != 0 {
         return Measured {
             needed: Needed {

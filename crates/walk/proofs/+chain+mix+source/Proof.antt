@@ -25,12 +25,12 @@ use Rattle.walk.proofs.source.Kinds as source-kinds
 use Rattle.walk.proofs.+chain+mix+source.Lts-source as source-lts
 use Rattle.block.proofs.fill_block.Reads as fill-block-reads
 use Rattle.sheet.proofs.kind_at.Reads as kind-at-reads
-use Rattle.walk.proofs.empty.Reads as empty-reads
+use Rattle.mixer.proofs.empty.Reads as empty-reads
 use Rattle.walk.proofs.is_fold.Reads as is-fold-reads
 use Rattle.walk.proofs.leaf.Reads as leaf-reads
-use Rattle.walk.proofs.scratch_fill.Reads as scratch-fill-reads
-use Rattle.walk.proofs.scratch_join.Reads as scratch-join-reads
-use Rattle.walk.proofs.scratch_take.Reads as scratch-take-reads
+use Rattle.mixer.proofs.scratch_fill.Reads as scratch-fill-reads
+use Rattle.mixer.proofs.scratch_join.Reads as scratch-join-reads
+use Rattle.mixer.proofs.scratch_take.Reads as scratch-take-reads
 use Rattle.walk.proofs.+chain+mix+source.{statement}
 use Rattle.walk.proofs.+chain+mix+source.Tie.{close}
 
