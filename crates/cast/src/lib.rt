@@ -139,6 +139,15 @@ pub fn f32_to_u64(x: f32) -> u64
     0
 }
 
+// The same for an x from 1 to 2^20, where x + 2^20 is exact in f64: its pattern has x's whole part from digit 32 on.
+pub fn small_to_u64(x: f32) -> u64
+    requires { ⌜ T (Ieee.le (fin false 1 (pos 0)) x) ⌝ ∗ ⌜ T (Ieee.lt x (fin false 1 (pos 20))) ⌝ }
+    ensures { λ r. ⌜ r ≡ Ieee.toUnsigned 64 x ⌝ }
+{
+    let bits: u64 = f64::to_bits((x as f64) + 1048576.0);
+    (bits >> 32) - 0x4130_0000
+}
+
 pub fn f64_to_i64(x: f64) -> i64
     ensures { λ r. ⌜ r ≡ Ieee.toSigned 63 x ⌝ }
 {

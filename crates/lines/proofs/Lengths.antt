@@ -1,17 +1,20 @@
 -- How long the lines can be, at up to 192,000 samples a second: each rounded operation is bounded by the same one on the largest numbers, which is computed. Assumes nothing.
-use mathlib.Core.Path.{_≡_, refl}
-use mathlib.Core.Bool.{false}
+use mathlib.Core.Path.{_≡_, refl, _∙_}
+use mathlib.Core.Logic.{_⊎_, inl, inr}
+use mathlib.Core.Bool.{Bool, true, false, not, _||_}
 use mathlib.Core.List.{List, [], _∷_}
-use Prim.Native.Nat.{ℕ, zero, suc, _+_, _*_, _/_, _^_, _≤_, _<_, max, zero-le}
-use native.Mathlib.Nat.{le-trans, zero-lt-suc}
+use Prim.Native.Nat.{ℕ, zero, suc, _+_, _*_, _/_, _^_, _-_, _≤_, _<_, max, min, zero-le}
+use native.Mathlib.Nat.{le-trans, zero-lt-suc, le-div-iff-mul-le}
 use native.Mathlib.Omega.{arith}
 use lib.ListN.{getD}
-use lib.Dec.{lit≤, lit<}
-use lib.Ieee.{Float, binary32, ofBits, round, add, mul, div, toUnsigned}
+use lib.Dec.{T, ltb→lt, lt→ltb, lit≤, lit<}
+use lib.Ieee.{Float, nan, inf, fin, binary32, up, down, lt, le, eq, ofBits, round, add, mul, div, toUnsigned}
+use lib.Ieee.Fits.{down-pos}
 use lib.Ieee.Exact.{HasValue}
 use Rattle.float.specs.Order.{minOf}
+use Rattle.ieee.proofs.Tests.{two-to, one-32, yes, no}
 use Rattle.lines.specs.Lines.{single, zeroF, oneF, maxDelaySecs, chorusBaseSecs, chorusSwingSecs, tuningRate, delayLine, chorusBase, chorusSwing, chorusLine, tunedLine, combTunings, allpassTunings, combLine, allpassLine}
-use Rattle.lines.proofs.Bounds.{UpTo, AtMost, up-to-at-most, whole-up-to, min-at-most, clamp-at-most, mul-up-to, mul-at-most, add-at-most, div-up-to, cast-le}
+use Rattle.lines.proofs.Bounds.{UpTo, AtMost, up-to-at-most, whole-up-to, not-above, min-at-most, clamp-at-most, mul-up-to, mul-at-most, add-at-most, div-up-to, cast-le}
 
 one : 0 < 1
 one = zero-lt-suc 0
@@ -67,6 +70,60 @@ allpass-top : AtTop 556 24207
 unfolding round
 allpass-top = lit≤ tt
 
+up-to-small : (x : Float) → UpTo x 64915 10 → T (lt x (two-to 20))
+unfolding lt
+up-to-small nan u = absurd u
+up-to-small (inf s) u = absurd u
+up-to-small (fin true m e) u = absurd u
+up-to-small (fin false m e) u = lt→ltb (m * up e * 1) (1 * 2 ^ 20 * down e) (go (m * up e) (down e) (down-pos e) u)
+  where
+    go : (n d : ℕ) → 0 < d → n * 10 ≤ 64915 * d → n * 1 < 1 * 2 ^ 20 * d
+    go n d p h = omega arith
+
+-- ---- a length y raised to one, as the code has it
+abbrev pub Raised : Float → Float → Type 0
+Raised y z = ((lt oneF y ≡ true) × (z ≡ y)) ⊎ ((lt oneF y ≡ false) × (z ≡ oneF))
+
+least : (y : Float) → T (lt (two-to 0) y) → 1 ≤ toUnsigned 64 y
+unfolding lt toUnsigned
+least nan h = absurd h
+least (inf true) h = absurd h
+least (inf false) h = lit≤ tt
+least (fin true m e) h = absurd h
+least (fin false m e) h = both (m * up e / down e) (le-div-iff-mul-le {k = down e} (down-pos e) .1 (go (m * up e) (down e) (ltb→lt (1 * 1 * down e) (m * up e * 1) h)))
+  where
+    go : (n d : ℕ) → 1 * 1 * d < n * 1 → 1 * d ≤ n
+    go n d h = omega arith
+
+    both : (q : ℕ) → 1 ≤ q → 1 ≤ min q (2 ^ 64 - 1)
+    both q h = omega arith
+
+above-le : (x y : Float) → T (lt x y) → T (le x y)
+unfolding le
+above-le x y h = go (lt x y) (eq x y) h
+  where
+    go : (p q : Bool) → T p → T (p || q)
+    go true q h = tt
+    go false q h = absurd h
+
+one-small : T (le (two-to 0) (two-to 0)) × T (lt (two-to 0) (two-to 20)) × (toUnsigned 64 (two-to 0) ≡ 1)
+unfolding le lt eq toUnsigned
+one-small = (tt, tt, refl)
+
+pub raised : (y z : Float) → Raised y z → T (lt y (two-to 20)) → T (le (two-to 0) z) × T (lt z (two-to 20)) × (toUnsigned 64 z ≡ max (toUnsigned 64 y) 1)
+raised y z (inl (h, e)) b =
+    let a : T (lt (two-to 0) y) = yes (rw one-32 at h) in
+    rw e (above-le (two-to 0) y a, b, more (toUnsigned 64 y) (least y a))
+  where
+    more : (n : ℕ) → 1 ≤ n → n ≡ max n 1
+    more n h = omega arith
+raised y z (inr (h, e)) b =
+    let a : T (not (lt (two-to 0) y)) = no (rw one-32 at h) in
+    rw (e, one-32) (one-small .0, one-small .1, one-small .2 ∙ less (toUnsigned 64 y) (cast-le 64 y 1 1 one (not-above y (two-to 0) 1 1 (lit≤ tt) a)))
+  where
+    less : (n : ℕ) → n ≤ 1 → 1 ≡ max n 1
+    less n h = omega arith
+
 -- ---- the largest of a list
 abbrev most : List ℕ → ℕ
 most [] = 0
@@ -119,13 +176,19 @@ module _ (sr : ℕ) (h : sr ≤ 192000) where
   scale-le = div-up-to binary32 192000 1 44100 1 4353742 1000000 one one _ _ (lit< tt) rate tuning-rate largest-scale
 
   -- a tuning up to m
+  tuned-up-to : (t m a : ℕ) → t ≤ m → m ≤ 2 ^ 24 → AtTop m a → UpTo (mul binary32 (single t) (div binary32 (single sr) tuningRate)) a 10
+  tuned-up-to t m a l k u = mul-up-to binary32 m 1 4353742 1000000 a 10 one (lit< tt) _ _ (whole-up-to binary32 t m l (le-trans l k)) scale-le u
+
   pub tuned-le : (t m a : ℕ) → t ≤ m → m ≤ 2 ^ 24 → AtTop m a → tunedLine t sr ≤ max (a / 10) 1
   unfolding tunedLine
   tuned-le t m a l k u =
       let x = mul binary32 (single t) (div binary32 (single sr) tuningRate) in
-      let n : toUnsigned 64 x ≤ a / 10 =
-      cast-le 64 x a 10 (lit< tt) (up-to-at-most x a 10 (mul-up-to binary32 m 1 4353742 1000000 a 10 one (lit< tt) _ _ (whole-up-to binary32 t m l (le-trans l k)) scale-le u)) in
+      let n : toUnsigned 64 x ≤ a / 10 = cast-le 64 x a 10 (lit< tt) (up-to-at-most x a 10 (tuned-up-to t m a l k u)) in
       omega arith
+
+  -- what `tuned_by` asks
+  pub tuned-small : (t : ℕ) {x y : Float} → t ≤ 1491 → x ≡ single t → y ≡ div binary32 (single sr) tuningRate → T (lt (mul binary32 x y) (two-to 20))
+  tuned-small t l e f = rw (e, f) (up-to-small _ (tuned-up-to t 1491 64915 l (lit≤ tt) comb-top))
 
   pub comb-le : (k : ℕ) → combLine k sr ≤ 6491
   comb-le k = tuned-le (getD combTunings k 0) 1491 64915 (getD-most combTunings k) (lit≤ tt) comb-top

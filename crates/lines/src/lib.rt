@@ -1,7 +1,10 @@
 ghost use mathlib.Core.Path.{_≡_};
+ghost use mathlib.Core.Bool.{false};
 ghost use Prim.Native.Nat.{ℕ, _≤_, max};
 ghost use lib.ListN.{length};
-ghost use lib.Ieee.{binary32, div};
+ghost use lib.IntN.{pos};
+ghost use lib.Dec.{T};
+ghost use lib.Ieee.{fin, binary32, mul, div, lt};
 ghost use Rattle.lines.specs.Lines.{single, tuningRate, delayLine, chorusBase, chorusSwing, chorusLine, tunedLine, combLine, allpassLine, reverbLines};
 
 // Also what a NaN counts as.
@@ -46,11 +49,14 @@ pub fn chorus_line_len(depth: f32, sr: u32) -> u64
     cast::f32_to_u64(chorus_base(sr) + chorus_swing(depth, sr)) + 2
 }
 
-// A tuning of t samples at 44,100 Hz, at scale times that rate.
+// A tuning of t samples at 44,100 Hz, at scale times that rate. A line of less than a sample is raised to one before the
+// fraction is dropped, which is then cheap.
 fn tuned_by(t: f32, scale: f32) -> u64
+    requires { ⌜ T (lt (mul binary32 t scale) (fin false 1 (pos 20))) ⌝ }
     ensures { λ r. ⌜ ((n sr : ℕ) → t ≡ single n → scale ≡ div binary32 (single sr) tuningRate → r ≡ tunedLine n sr) ⌝ }
 {
-    at_least_one(cast::f32_to_u64(t * scale))
+    let y = t * scale;
+    cast::small_to_u64(if y > 1.0 { y } else { 1.0 })
 }
 
 // Freeverb's six combs, then its four allpasses.
@@ -58,7 +64,7 @@ pub fn reverb_lens(sr: u32, lens: &mut [u64])
     requires { ⌜ (sr ≤ 192000) × (length (now lens) ≡ 10) ⌝ }
     ensures { λ v. ⌜ (now (lens .exit) ≡ reverbLines sr) × ((k : ℕ) → (1 ≤ combLine k sr) × (combLine k sr ≤ 6491)) × ((k : ℕ) → (1 ≤ allpassLine k sr) × (allpassLine k sr ≤ 2420)) ⌝ }
 {
-    let scale = cast::u32_to_f32(sr) / 44100.0;
+    let scale = cast::small_to_f32(sr as u64) / 44100.0;
     lens[0] = tuned_by(1116.0, scale);
     lens[1] = tuned_by(1188.0, scale);
     lens[2] = tuned_by(1277.0, scale);

@@ -1,12 +1,15 @@
 -- `lines::reverb_lens` meets its contract. Assumes nothing.
 use mathlib.Core.Path.{_≡_, refl, ap, _∙_}
 use mathlib.Core.List.{[], _∷_}
+use Prim.Native.Nat.{ℕ, _≤_}
 use native.Mathlib.Omega.{arith}
 use lib.Seq.{length-sets, lt-length-sets}
-use lib.Ieee.{binary32, ofBits, ofInt, round, units, div}
+use lib.Dec.{T, lit≤}
+use lib.Ieee.{Float, binary32, ofBits, ofInt, round, units, mul, div, lt}
 use Rattle.tree.specs.Lists.{stored}
+use Rattle.ieee.proofs.Tests.{two-to}
 use Rattle.lines.specs.Lines.{single, tuningRate}
-use Rattle.lines.proofs.Lengths.{tuned-ge, comb-le, allpass-le}
+use Rattle.lines.proofs.Lengths.{tuned-ge, tuned-small, comb-le, allpass-le}
 use borrow.Author.Needs.{needs}
 use Rattle.lines.proofs.reverb_lens.Statement.{statement}
 use Rattle.lines.proofs.reverb_lens.Tie as tie
@@ -25,12 +28,15 @@ tunings : (ofBits binary32 0x448b_8000 ≡ single 1116)
 unfolding ofBits ofInt round units
 tunings = (refl, refl, refl, refl, refl, refl, refl, refl, refl, refl)
 
+asked : (s : tie.Start) {x y : Float} → x ≡ single (s .args .sr) → (n : ℕ) → y ≡ single n → n ≤ 1491 → T (lt (mul binary32 y (div binary32 x tuningRate)) (two-to 20))
+asked s e n f l = tuned-small (s .args .sr) (s .pre .0) n l f (ap (λ x. div binary32 x tuningRate) e)
+
 returns : tie.Need-returns
 returns c =
     let s = c .before .before .before .before .before .before .before .before .before .before .before .before in
     let sr = s .args .sr in
     let l = tunings in
-    let q = ap (λ x. div binary32 x tuningRate) (c .before .before .before .before .before .before .before .before .before .before .u32-to-f32 .ensures) in (
+    let q = ap (λ x. div binary32 x tuningRate) (c .before .before .before .before .before .before .before .before .before .before .small-to-f32 .ensures) in (
       stored (_ ∷ _ ∷ _ ∷ _ ∷ _ ∷ _ ∷ _ ∷ _ ∷ _ ∷ _ ∷ []) (s .args .lens .now) (s .pre .1)
           ∙ (λ i.
           c .before .before .before .before .before .before .before .before .before .tuned-by .ensures 1116 sr (l .0) q i
@@ -53,25 +59,25 @@ reverb-lens-spec =
     tie.close
     (tie.spec
     (λ c κs. search needs)
-    (λ c κs. search needs)
+    (λ c κs. asked (c .before .before) (c .small-to-f32 .ensures) 1116 (tunings .0) (lit≤ tt))
     (λ c. search needs)
-    (λ c κs. search needs)
+    (λ c κs. asked (c .before .before .before) (c .before .small-to-f32 .ensures) 1188 (tunings .1) (lit≤ tt))
     (λ c. search needs)
-    (λ c κs. search needs)
+    (λ c κs. asked (c .before .before .before .before) (c .before .before .small-to-f32 .ensures) 1277 (tunings .2) (lit≤ tt))
     (λ c. search needs)
-    (λ c κs. search needs)
+    (λ c κs. asked (c .before .before .before .before .before) (c .before .before .before .small-to-f32 .ensures) 1356 (tunings .3) (lit≤ tt))
     (λ c. search needs)
-    (λ c κs. search needs)
+    (λ c κs. asked (c .before .before .before .before .before .before) (c .before .before .before .before .small-to-f32 .ensures) 1422 (tunings .4) (lit≤ tt))
     (λ c. lt-length-sets (c .before .before .before .before .before .before .before .args .lens .now) 0 (_ ∷ _ ∷ _ ∷ _ ∷ []) {k = 4} (omega arith))
-    (λ c κs. search needs)
+    (λ c κs. asked (c .before .before .before .before .before .before .before) (c .before .before .before .before .before .small-to-f32 .ensures) 1491 (tunings .5) (lit≤ tt))
     (λ c. lt-length-sets (c .before .before .before .before .before .before .before .before .args .lens .now) 0 (_ ∷ _ ∷ _ ∷ _ ∷ _ ∷ []) {k = 5} (omega arith))
-    (λ c κs. search needs)
+    (λ c κs. asked (c .before .before .before .before .before .before .before .before) (c .before .before .before .before .before .before .small-to-f32 .ensures) 556 (tunings .6) (lit≤ tt))
     (λ c. lt-length-sets (c .before .before .before .before .before .before .before .before .before .args .lens .now) 0 (_ ∷ _ ∷ _ ∷ _ ∷ _ ∷ _ ∷ []) {k = 6} (omega arith))
-    (λ c κs. search needs)
+    (λ c κs. asked (c .before .before .before .before .before .before .before .before .before) (c .before .before .before .before .before .before .before .small-to-f32 .ensures) 441 (tunings .7) (lit≤ tt))
     (λ c. lt-length-sets (c .before .before .before .before .before .before .before .before .before .before .args .lens .now) 0 (_ ∷ _ ∷ _ ∷ _ ∷ _ ∷ _ ∷ _ ∷ []) {k = 7} (omega arith))
-    (λ c κs. search needs)
+    (λ c κs. asked (c .before .before .before .before .before .before .before .before .before .before) (c .before .before .before .before .before .before .before .before .small-to-f32 .ensures) 341 (tunings .8) (lit≤ tt))
     (λ c. lt-length-sets (c .before .before .before .before .before .before .before .before .before .before .before .args .lens .now) 0 (_ ∷ _ ∷ _ ∷ _ ∷ _ ∷ _ ∷ _ ∷ _ ∷ []) {k = 8} (omega arith))
-    (λ c κs. search needs)
+    (λ c κs. asked (c .before .before .before .before .before .before .before .before .before .before .before) (c .before .before .before .before .before .before .before .before .before .small-to-f32 .ensures) 225 (tunings .9) (lit≤ tt))
     (λ c. lt-length-sets (c .before .before .before .before .before .before .before .before .before .before .before .before .args .lens .now) 0 (_ ∷ _ ∷ _ ∷ _ ∷ _ ∷ _ ∷ _ ∷ _ ∷ _ ∷ []) {k = 9} (omega arith))
     (λ c. length-sets (c .before .before .before .before .before .before .before .before .before .before .before .before .args .lens .now) 0 (_ ∷ _ ∷ _ ∷ _ ∷ _ ∷ _ ∷ _ ∷ _ ∷ _ ∷ _ ∷ []))
     returns)
