@@ -1,6 +1,6 @@
 -- The needs by numbers alone, as the code works them out: a row for each kind that needs some.
 use mathlib.Core.Path.{_≡_, refl, sym, ap, _∙_}
-use mathlib.Core.Bool.{cond}
+use mathlib.Core.Bool.{Bool, true, false, cond}
 use mathlib.Core.List.{List, [], _∷_}
 use mathlib.Core.Logic.{_≢_}
 use Prim.Native.Nat.{ℕ, zero, suc, _+_, _*_, _≤_, _<_}
@@ -76,31 +76,57 @@ cells-is s i m e = elim (ℕ-discrete 31 (kind s i)) [
   | no d ↦ no-modes (kind s i) d (recordAt s i) (rateOf s) m (chainLength s i) ∙ sym (cells-with s i)
 ]
 
--- a need of record i, by numbers for its kind and its role
-pub registers-is : (s : List ℕ) (i k r : ℕ) → k ≡ kind s i → r ≡ roleCode (role s i) → cond (isBuilt (codeRole r)) (registersWith k) 0 ≡ registers s i
-registers-is s i k r ek er = rw (ek, er, role-code (role s i), registers-with s i)
-
-pub scratch-is : (s : List ℕ) (i k r : ℕ) → k ≡ kind s i → r ≡ roleCode (role s i) → cond (isBuilt (codeRole r)) (scratchWith k) 0 ≡ scratch s i
-scratch-is s i k r ek er = rw (ek, er, role-code (role s i), scratch-with s i)
-
 -- a built record's needs are its kind's
+is-built : (s : List ℕ) (i r : ℕ) → r ≡ roleCode (role s i) → 2 ≤ r → role s i ≡ built
+is-built s i r er h = sym (role-code (role s i)) ∙ ap codeRole (sym er) ∙ code-built r h
+
 pub cells-built : (s : List ℕ) (i : ℕ) → role s i ≡ built → cells s i ≡ cellsBy s i
 cells-built s i r = rw r
 
 pub registers-built : (s : List ℕ) (i : ℕ) → role s i ≡ built → registers s i ≡ registersBy s i
 registers-built s i r = rw r
 
-pub cells-none : (s : List ℕ) (i r : ℕ) → r ≡ roleCode (role s i) → r < 2 → cells s i ≡ 0
-cells-none s i r er h = rw (sym (role-code (role s i)), ← er, code-unbuilt r h)
-
 pub cells-some : (s : List ℕ) (i r : ℕ) → r ≡ roleCode (role s i) → 2 ≤ r → cells s i ≡ cellsBy s i
-cells-some s i r er h = rw (sym (role-code (role s i)), ← er, code-built r h)
+cells-some s i r er h = cells-built s i (is-built s i r er h)
 
-pub cells-made : (s : List ℕ) (i k f r rate m x : ℕ) (part : List ℕ) → part ≡ recordAt s i → rate ≡ rateOf s → k ≡ kind s i → f ≡ first s i → r ≡ roleCode (role s i) → 2 ≤ r
-    → (k ≡ 31 → m ≡ length (spine (records s f))) → x ≡ cellsWith part rate k m → x ≡ cells s i
-cells-made s i k f r rate m x part ep et ek ef er h em e =
+pub registers-some : (s : List ℕ) (i k r : ℕ) → k ≡ kind s i → r ≡ roleCode (role s i) → 2 ≤ r → registersWith k ≡ registers s i
+registers-some s i k r ek er h = rw (ek, is-built s i r er h, registers-with s i)
+
+pub scratch-some : (s : List ℕ) (i k r : ℕ) → k ≡ kind s i → r ≡ roleCode (role s i) → 2 ≤ r → scratchWith k ≡ scratch s i
+scratch-some s i k r ek er h = rw (ek, is-built s i r er h, scratch-with s i)
+
+pub cells-made : (s : List ℕ) (i k f rate m x : ℕ) (part : List ℕ) → part ≡ recordAt s i → rate ≡ rateOf s → k ≡ kind s i → f ≡ first s i
+    → (k ≡ 31 → m ≡ length (spine (records s f))) → x ≡ cellsWith part rate k m → x ≡ cellsBy s i
+cells-made s i k f rate m x part ep et ek ef em e =
     e ∙ ap (λ p. cellsWith p rate k m) ep ∙ ap (λ t. cellsWith (recordAt s i) t k m) et ∙ ap (λ k. cellsWith (recordAt s i) (rateOf s) k m) ek
-    ∙ cells-is s i m (λ q. em (ek ∙ q) ∙ ap (λ f. length (spine (records s f))) ef) ∙ sym (cells-some s i r er h)
+    ∙ cells-is s i m (λ q. em (ek ∙ q) ∙ ap (λ f. length (spine (records s f))) ef)
+
+-- ---- kinds and roles, by number, of records that need nothing
+abbrev pub Bare : ℕ → ℕ → Type 0
+Bare k r = (s : List ℕ) (i : ℕ) → k ≡ kind s i → r ≡ roleCode (role s i) → (cells s i ≡ 0) × (registers s i ≡ 0) × (scratch s i ≡ 0)
+
+nothing : (b : Bool) (n : ℕ) → n ≡ 0 → cond b n 0 ≡ 0
+nothing true n e = e
+nothing false n e = refl
+
+pub bare-unbuilt : (k r : ℕ) → r < 2 → Bare k r
+bare-unbuilt k r h s i ek er = let e : isBuilt (role s i) ≡ false = ap isBuilt (sym (role-code (role s i)) ∙ ap codeRole (sym er)) ∙ code-unbuilt r h in (rw e, rw e, rw e)
+
+-- values, modes and steps have no row, but Rand
+value-rows : (k : ℕ) → 35 < k → k ≢ 46 → ((r : List ℕ) (rate m : ℕ) → cellsWith r rate k m ≡ 0) × (registersWith k ≡ 0) × (scratchWith k ≡ 0)
+unfolding needOf
+value-rows k h d =
+    let n = ne-eqb 46 k (λ e. d (sym e)) in (
+      λ r rate m. sym (cells-other k _ _ _ _ _ _ (omega arith) (omega arith) (omega arith) (omega arith) (omega arith) (omega arith) (omega arith) (omega arith) (omega arith) (omega arith) (omega arith) (omega arith) (omega arith) (omega arith) (omega arith) (omega arith) (omega arith) (omega arith) (omega arith) (omega arith) (omega arith) (λ e. d (sym e))),
+      rw (ne-eqb 9 k (omega arith), ne-eqb 10 k (omega arith), ne-eqb 29 k (omega arith), ne-eqb 30 k (omega arith), ne-eqb 34 k (omega arith), n),
+      rw (ne-eqb 11 k (omega arith), ne-eqb 12 k (omega arith)),
+    )
+
+pub bare-value : (k r : ℕ) → 35 < k → k ≢ 46 → Bare k r
+bare-value k r h d s i ek er =
+    let w = value-rows (kind s i) (omega arith) (λ e. d (ek ∙ e)) in
+    let b = isBuilt (role s i) in
+    (nothing b _ (cells-with s i ∙ w .0 (recordAt s i) (rateOf s) (chainLength s i)), nothing b _ (registers-with s i ∙ w .1), nothing b _ (scratch-with s i ∙ w .2))
 
 -- ---- a chain's length
 module _ (s : List ℕ) (g : Good s) where

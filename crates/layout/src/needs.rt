@@ -1,14 +1,14 @@
 // What the built records of an accepted sheet need, and where each one's parts begin.
 ghost use mathlib.Core.Path.{_≡_};
-ghost use mathlib.Core.Bool.{cond};
+ghost use mathlib.Core.Bool.{true, false};
 ghost use Prim.Native.Nat.{_+_, _*_, _≤_, _<_, min, max};
 ghost use lib.ListN.{length};
-ghost use Rattle.sheet.specs.Record.{kind, first, next};
+ghost use Rattle.sheet.specs.Record.{rateOf, kind, first, next};
 ghost use Rattle.sheet.specs.Tree.{records, spine};
-ghost use Rattle.layout.specs.Built.{role, isBuilt};
-ghost use Rattle.layout.specs.Needs.{noiseCells, reverbCells, cells};
-ghost use Rattle.layout.specs.Tables.{Table, Passed, roleCode, codeRole};
-ghost use Rattle.layout.specs.Counts.{cellsWith, registersWith, scratchWith, Placed};
+ghost use Rattle.layout.specs.Built.{role};
+ghost use Rattle.layout.specs.Needs.{noiseCells, reverbCells, cellsBy};
+ghost use Rattle.layout.specs.Tables.{Table, Passed, roleCode};
+ghost use Rattle.layout.specs.Counts.{cellsWith, registersWith, scratchWith, Bare, Placed};
 
 pub struct Needs {
     pub cells: u64,
@@ -129,37 +129,35 @@ fn modes(sheet: &[u8], count: usize, nexts: &[usize], k: u8, f: usize) -> u64
     }
 }
 
-// The cells of record i, of kind k, first f and role act: none if it is not built.
+// The cells of record i, of kind k and first f, where it is built.
 fn cells_at(
     sheet: &[u8],
     count: usize,
+    rate: u32,
     nexts: &[usize],
     i: usize,
     k: u8,
     f: usize,
-    act: u8,
 ) -> usize
-    requires { ⌜ Passed (now sheet) count × Table (next (now sheet)) count (now nexts) × (i < count) × (k ≡ kind (now sheet) i) × (f ≡ first (now sheet) i) × (act ≡ roleCode (role (now sheet) i)) ⌝ }
-    ensures { λ x. ⌜ (x ≡ cells (now (sheet .entry)) i) × (x ≤ 5760000) ⌝ }
+    requires { ⌜ Passed (now sheet) count × (rate ≡ rateOf (now sheet)) × Table (next (now sheet)) count (now nexts) × (i < count) × (k ≡ kind (now sheet) i) × (f ≡ first (now sheet) i) ⌝ }
+    ensures { λ x. ⌜ (x ≡ cellsBy (now (sheet .entry)) i) × (x ≤ 5760000) ⌝ }
 {
-    if act < 2 {
-        return 0;
-    }
     let m = modes(sheet, count, nexts, k, f);
     let a = 24 + 40 * i;
-    cells_of(&sheet[a..], sheet::rate(sheet), k, m) as usize
+    cells_of(&sheet[a..], rate, k, m) as usize
 }
 
-fn registers_at(k: u8, r: u8) -> usize
-    ensures { λ x. ⌜ (x ≡ cond (isBuilt (codeRole r)) (registersWith k) 0) × (x ≤ 11) ⌝ }
+// Whether a record of kind k and role act may need anything: where it is built. Half of all records are values, modes and
+// steps, above 35, which need nothing but for Rand; so the kind is asked first.
+fn owns(k: u8, act: u8) -> bool
+    ensures { λ r. ⌜ (r ≡ true → 2 ≤ act) × (r ≡ false → Bare k act) ⌝ }
 {
-    if r < 2 { 0 } else { registers_of(k) as usize }
-}
-
-fn scratch_at(k: u8, r: u8) -> usize
-    ensures { λ x. ⌜ (x ≡ cond (isBuilt (codeRole r)) (scratchWith k) 0) × (x ≤ 256) ⌝ }
-{
-    if r < 2 { 0 } else { scratch_of(k) as usize }
+    if 35 < k {
+        if k != 46 {
+            return false;
+        }
+    }
+    if act < 2 { false } else { true }
 }
 
 // The three tables of places, with one entry more for what the sheet needs of each.
@@ -177,6 +175,7 @@ pub fn offsets(
     requires { ⌜ Passed (now sheet) count × Table (kind (now sheet)) count (now kinds) × Table (first (now sheet)) count (now firsts) × Table (next (now sheet)) count (now nexts) × Table (λ j. roleCode (role (now sheet) j)) count (now acts) × (count < length (now places)) × (count < length (now words)) × (count < length (now blocks)) ⌝ }
     ensures { λ r. ⌜ Placed (now (sheet .entry)) count (now (places .exit)) (now (words .exit)) (now (blocks .exit)) (r .cells) (r .registers) (r .scratch) ⌝ }
 {
+    let rate = sheet::rate(sheet);
     let mut c = 0usize;
     let mut r = 0usize;
     let mut s = 0usize;
@@ -186,10 +185,11 @@ pub fn offsets(
         words[i] = r;
         blocks[i] = s;
         let k = kinds[i];
-        let act = acts[i];
-        c += cells_at(sheet, count, nexts, i, k, firsts[i], act);
-        r += registers_at(k, act);
-        s += scratch_at(k, act);
+        if owns(k, acts[i]) {
+            c += cells_at(sheet, count, rate, nexts, i, k, firsts[i]);
+            r += registers_of(k) as usize;
+            s += scratch_of(k) as usize;
+        }
         i += 1;
     }
     places[i] = c;

@@ -1,29 +1,24 @@
--- `layout::needs::cells_at` meets its contract. A record that is not built needs nothing; else its part of the sheet is the record. Assumes nothing.
-use mathlib.Core.Path.{sym}
+-- `layout::needs::cells_at` meets its contract. Its part of the sheet is the record. Assumes nothing.
 use Prim.Native.Nat.{_+_, _*_}
 use native.Mathlib.Omega.{arith}
 use Rattle.sheet.specs.Laws.{rest}
 use Rattle.layout.specs.Tables.{first-low}
-use Rattle.layout.specs.Counts.{cells-none, cells-made}
+use Rattle.layout.specs.Counts.{cells-made}
 use borrow.Author.Needs.{needs}
 use Rattle.layout.proofs.needs.cells_at.Statement.{statement}
 use Rattle.layout.proofs.needs.cells_at.Tie as tie
 
-returns : tie.Need-returns
-returns c =
-    let s = c .before .before .before in
-    (sym (cells-none (s .args .sheet .now) (s .args .i) (s .args .act) (s .pre .5) ((c .if1) .taken)), omega arith)
-
 modes-requires : tie.Need-modes-requires
 modes-requires c κs =
-    let s = c .before .before .before in
-    (s .pre .0, s .pre .1, omega (arith, s .pre .4, first-low (s .args .sheet .now) (s .args .count) (s .pre .0) (s .args .i) (s .pre .2)))
+    let s = c .before .before in
+    (s .pre .0, s .pre .2, omega (arith, s .pre .5, first-low (s .args .sheet .now) (s .args .count) (s .pre .0) (s .args .i) (s .pre .3)))
 
-returns-2 : tie.Need-returns-2
-returns-2 c =
-    let s = c .before .before .before .before .before .before .before in (
-      cells-made (s .args .sheet .now) (s .args .i) (s .args .k) (s .args .f) (s .args .act) (c .before .rate .result) (c .before .before .before .modes .result) (c .cells-of .result) _ (rest (s .args .sheet .now) (24 + 40 * s .args .i))
-          (c .before .rate .ensures) (s .pre .3) (s .pre .4) (s .pre .5) (c .before .before .before .before .if1 .left) (c .before .before .before .modes .ensures .0) (c .cells-of .ensures .0),
+returns : tie.Need-returns
+returns c =
+    let s = c .before .before .before .before .before in
+    let m = c .before .before .modes in (
+      cells-made (s .args .sheet .now) (s .args .i) (s .args .k) (s .args .f) (s .args .rate) (m .result) (c .cells-of .result) _ (rest (s .args .sheet .now) (24 + 40 * s .args .i))
+          (s .pre .1) (s .pre .4) (s .pre .5) (m .ensures .0) (c .cells-of .ensures .0),
       c .cells-of .ensures .1,
     )
 
@@ -31,7 +26,6 @@ pub cells-at-spec : {M : Type 1} → statement M
 cells-at-spec =
     tie.close
     (tie.spec
-    returns
     modes-requires
     (λ c. search needs)
     (λ c. search needs)
@@ -39,5 +33,4 @@ cells-at-spec =
     (λ c. search needs)
     (λ c. search needs)
     (λ c κs. search needs)
-    (λ c κs. search needs)
-    returns-2)
+    returns)

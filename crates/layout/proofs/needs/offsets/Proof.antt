@@ -1,24 +1,25 @@
 -- `layout::needs::offsets` meets its contract. The loop keeps the sums below i, and for each record at most 5,760,000 cells, 11 registers and 256 scratch. Assumes nothing.
-use mathlib.Core.Path.{_≡_, refl, _∙_}
-use Prim.Native.Nat.{_-_, _*_, _≤_}
+use mathlib.Core.Path.{_≡_, refl, sym, ap, _∙_}
+use mathlib.Core.Logic.{⊎-elim}
+use Prim.Native.Nat.{_+_, _-_, _*_, _≤_}
 use native.Mathlib.Omega.{arith}
 use borrow.Author.Count.{below-none}
 use lib.ListN.{length, length-set}
 use Rattle.sheet.specs.Checks.{sum}
 use Rattle.layout.specs.Needs.{cells, registers, scratch, cellsFrom, registersFrom, scratchFrom}
 use Rattle.layout.specs.Tables.{Below}
-use Rattle.layout.specs.Counts.{sums-turn, sums-done, registers-is, scratch-is}
+use Rattle.layout.specs.Counts.{sums-turn, sums-done, cells-some, registers-some, scratch-some}
 use borrow.Author.Needs.{needs}
 use Rattle.layout.proofs.needs.offsets.Statement.{statement}
 use Rattle.layout.proofs.needs.offsets.Tie as tie
 
 abbrev Inv-loop : tie.InvT-loop
-Inv-loop sheet count kinds firsts nexts acts places₀ words₀ blocks₀ c₀ r₀ s₀ i₀ places words blocks c r s i =
+Inv-loop sheet count kinds firsts nexts acts places₀ words₀ blocks₀ rate c₀ r₀ s₀ i₀ places words blocks c r s i =
     (i ≤ count) × (length places ≡ length places₀) × (length words ≡ length words₀) × (length blocks ≡ length blocks₀) × (c ≤ 5760000 * i) × (r ≤ 11 * i) × (s ≤ 256 * i)
     × (c ≡ cellsFrom sheet i) × (r ≡ registersFrom sheet i) × (s ≡ scratchFrom sheet i) × Below (cellsFrom sheet) i places × Below (registersFrom sheet) i words × Below (scratchFrom sheet) i blocks
 
 abbrev μ-loop : tie.MeasureT-loop
-μ-loop sheet count kinds firsts nexts acts places₀ words₀ blocks₀ c₀ r₀ s₀ i₀ places words blocks c r s i = count - i
+μ-loop sheet count kinds firsts nexts acts places₀ words₀ blocks₀ rate c₀ r₀ s₀ i₀ places words blocks c r s i = count - i
 
 loop-holds : tie.Need-loop-holds Inv-loop μ-loop
 unfolding sum
@@ -26,23 +27,39 @@ loop-holds c = (omega arith, refl, refl, refl, omega arith, omega arith, omega a
 
 cells-at-requires : tie.Need-cells-at-requires Inv-loop μ-loop
 cells-at-requires c κs =
-    let p = (c .before .before .before .before .before .before .before .before .before .before .before .before .before) .pre in
-    let l = c .before .before .before .before .loop in
-    let h = (c .before .before .before .loop-test) .taken in
-    (p .0, p .3, h, p .1 .at (l .i) h, p .2 .at (l .i) h, p .4 .at (l .i) h)
+    let p = (c .before .before .before .before .before .before .before .before .before .before .before .before .before .before .before .before) .pre in
+    let l = c .before .before .before .before .before .before .loop in
+    let h = (c .before .before .before .before .before .loop-test) .taken in
+    (p .0, (c .before .before .before .before .before .before .before .rate) .ensures, p .3, h, p .1 .at (l .i) h, p .2 .at (l .i) h)
 
 loop-again : tie.Need-loop-again Inv-loop μ-loop
 loop-again c =
-    let e = c .before .before .before .before .before .before .before .before .before .before .before .before .before .before .before .before in
-    let l = c .before .before .before .before .before .before .before .loop in
-    let h = (c .before .before .before .before .before .before .loop-test) .taken in
+    let e = c .before .before .before .before .before .before .before .before .before .before .before .before .before .before .before in
+    let l = c .before .before .before .before .before .loop in
+    let h = (c .before .before .before .before .loop-test) .taken in
     let sheet = e .args .sheet .now in
     let k = e .pre .1 .at (l .i) h in
     let act = e .pre .4 .at (l .i) h in
-    let wc = sums-turn (cells sheet) (l .places) (l .i) (l .c) ((c .before .before .cells-at) .result) (omega arith) (l .inv .10) (l .inv .7) ((c .before .before .cells-at) .ensures .0) in
-    let wr = sums-turn (registers sheet) (l .words) (l .i) (l .r) ((c .before .registers-at) .result) (omega arith) (l .inv .11) (l .inv .8) ((c .before .registers-at) .ensures .0 ∙ registers-is sheet (l .i) _ _ k act) in
-    let ws = sums-turn (scratch sheet) (l .blocks) (l .i) (l .s) ((c .scratch-at) .result) (omega arith) (l .inv .12) (l .inv .9) ((c .scratch-at) .ensures .0 ∙ scratch-is sheet (l .i) _ _ k act) in
-    (omega arith, simp length-set (l .inv .1), simp length-set (l .inv .2), simp length-set (l .inv .3), omega arith, omega arith, omega arith, wc .1, wr .1, ws .1, wc .0, wr .0, ws .0)
+    let owns = c .before .owns .ensures in
+    -- what the turn adds is what record i needs
+    let more : (c .if1 .c ≡ l .c + cells sheet (l .i)) × (c .if1 .r ≡ l .r + registers sheet (l .i)) × (c .if1 .s ≡ l .s + scratch sheet (l .i))
+    × (c .if1 .c ≤ l .c + 5760000) × (c .if1 .r ≤ l .r + 11) × (c .if1 .s ≤ l .s + 256)
+    = ⊎-elim
+    (λ w. let b = owns .0 (w .0 .taken) in (
+      w .5 ∙ ap (λ n. l .c + n) (w .2 .ensures .0 ∙ sym (cells-some sheet (l .i) _ act b)),
+      w .6 ∙ ap (λ n. l .r + n) (w .3 .ensures .0 ∙ registers-some sheet (l .i) _ _ k act b),
+      w .7 ∙ ap (λ n. l .s + n) (w .4 .ensures .0 ∙ scratch-some sheet (l .i) _ _ k act b),
+      omega arith,
+      omega arith,
+      omega arith,
+    ))
+    (λ w. let z = owns .1 (w .0 .left) sheet (l .i) k act in (omega arith, omega arith, omega arith, omega arith, omega arith, omega arith))
+    (c .if1 .came)
+    in
+    let wc = sums-turn (cells sheet) (l .places) (l .i) (l .c) _ (omega arith) (l .inv .10) (l .inv .7) refl in
+    let wr = sums-turn (registers sheet) (l .words) (l .i) (l .r) _ (omega arith) (l .inv .11) (l .inv .8) refl in
+    let ws = sums-turn (scratch sheet) (l .blocks) (l .i) (l .s) _ (omega arith) (l .inv .12) (l .inv .9) refl in
+    (omega arith, simp length-set (l .inv .1), simp length-set (l .inv .2), simp length-set (l .inv .3), omega arith, omega arith, omega arith, more .0 ∙ wc .1, more .1 ∙ wr .1, more .2 ∙ ws .1, wc .0, wr .0, ws .0)
 
 same-length : tie.Need-same-length Inv-loop μ-loop
 same-length c = simp length-set ((c .before .loop) .inv .1)
@@ -55,7 +72,7 @@ same-length-3 c = simp length-set ((c .before .loop) .inv .3)
 
 returns : tie.Need-returns Inv-loop μ-loop
 returns c =
-    let e = c .before .before .before .before .before .before .before .before .before .before in
+    let e = c .before .before .before .before .before .before .before .before .before .before .before in
     let l = (c .before .loop) in
     let sheet = e .args .sheet .now in
     let wc = sums-done (cells sheet) (l .places) (e .args .count) (l .i) (l .c) (omega arith) (omega arith) (omega arith) (l .inv .10) (l .inv .7) in
@@ -79,6 +96,7 @@ offsets-spec =
     (tie.spec
     Inv-loop
     μ-loop
+    (λ c κs. omega (arith, (c .before .before .before .before .before .before .before .before) .pre .0 .long))
     loop-holds
     (λ c. omega arith)
     (λ c. omega arith)
@@ -88,6 +106,7 @@ offsets-spec =
     (λ c. omega arith)
     (λ c. omega arith)
     (λ c. omega arith)
+    (λ c κs. search needs)
     (λ c. omega arith)
     (λ c. omega arith)
     cells-at-requires
