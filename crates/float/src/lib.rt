@@ -273,6 +273,13 @@ pub fn to_bits(x: f32) -> u32
     if x != x { 0x7fc0_0000 } else { f32::to_bits(x) }
 }
 
+// Whether two numbers are the same: their patterns tell zeros of unlike sign apart.
+pub fn same(a: f32, b: f32) -> bool
+    ensures { λ r. ⌜ (r ≡ true → a ≡ b) ⌝ }
+{
+    to_bits(a) == to_bits(b)
+}
+
 pub fn from_bits_f64(b: u64) -> f64
     ensures { λ r. ⌜ r ≡ Ieee.ofBits binary64 b ⌝ }
 {

@@ -4,6 +4,7 @@ ghost use mathlib.Core.Path.{_≡_};
 ghost use Prim.Native.Nat.{_+_, _^_, _≤_, _<_};
 ghost use lib.ListN.{length};
 ghost use Rattle.dsl.specs.declared.DriveShape.the-variants.{Tanh};
+ghost use Rattle.render.specs.Drive.{decayOf, lnCosh};
 ghost use Rattle.block.specs.Iterate.{given, after};
 ghost use Rattle.proc_block.specs.Steps.{gainStep, filterStep, drivenStep, decayStep, lnCoshStep, driveByStep, driveStepAt, drivePlainStep, lfoStep, angleStep, tremoloStep, tremoloByStep, compressStep, levelStep, levelGainStep};
 
@@ -55,13 +56,44 @@ fn drive_amplified(out: &mut [f32], amount: &[f32])
     }
 }
 
+// A sample that stays, as a square's do, has the numbers of the one before.
+fn decay_after(y: f32, x: f32, d: f32) -> f32
+    requires { ⌜ d ≡ decayOf x ⌝ }
+    ensures { λ r. ⌜ r ≡ decayOf y ⌝ }
+{
+    if float::same(y, x) {
+        d
+    } else {
+        render::decay(y)
+    }
+}
+
+fn ln_cosh_after(y: f32, e: f32, x: f32, d: f32, f: f32) -> f32
+    requires { ⌜ f ≡ lnCosh x d ⌝ }
+    ensures { λ r. ⌜ r ≡ lnCosh y e ⌝ }
+{
+    if float::same(y, x) {
+        if float::same(e, d) {
+            return f;
+        }
+    }
+    render::ln_cosh(y, e)
+}
+
 fn drive_decays(fs: &mut [f32], xs: &[f32])
     requires { ⌜ (length (now fs) ≤ length (now xs)) ⌝ }
     ensures { λ v. ⌜ (now (fs .exit) ≡ given (decayStep (now (xs .entry))) tt (length (now (fs .entry)))) ⌝ }
 {
+    if fs.len() == 0 {
+        return;
+    }
+    let mut x = xs[0];
+    let mut d = render::decay(x);
     let mut k: usize = 0;
     while k < fs.len() {
-        fs[k] = render::decay(xs[k]);
+        d = decay_after(xs[k], x, d);
+        x = xs[k];
+        fs[k] = d;
         k += 1;
     }
 }
@@ -70,9 +102,18 @@ fn drive_ln_coshes(fs: &mut [f32], xs: &[f32])
     requires { ⌜ (length (now fs) ≤ length (now xs)) ⌝ }
     ensures { λ v. ⌜ (now (fs .exit) ≡ given (lnCoshStep (now (xs .entry)) (now (fs .entry))) tt (length (now (fs .entry)))) ⌝ }
 {
+    if fs.len() == 0 {
+        return;
+    }
+    let mut x = xs[0];
+    let mut d = fs[0];
+    let mut f = render::ln_cosh(x, d);
     let mut k: usize = 0;
     while k < fs.len() {
-        fs[k] = render::ln_cosh(xs[k], fs[k]);
+        f = ln_cosh_after(xs[k], fs[k], x, d, f);
+        x = xs[k];
+        d = fs[k];
+        fs[k] = f;
         k += 1;
     }
 }

@@ -36,13 +36,6 @@ fn rise(c: control::Controls) -> control::Controls
     }
 }
 
-// Whether two numbers are the same: their patterns tell zeros of unlike sign apart.
-fn same(a: f32, b: f32) -> bool
-    ensures { λ r. ⌜ (r ≡ true → a ≡ b) ⌝ }
-{
-    float::to_bits(a) == float::to_bits(b)
-}
-
 // The controls n samples on, where the pitch stays.
 fn rise_by(c: control::Controls, n: u64) -> control::Controls
     requires { ⌜ c .position + n < 2 ^ 64 ⌝ }
@@ -87,7 +80,7 @@ fn glide_block(first: control::Controls, pitch: &mut [f32]) -> control::Controls
     ensures { λ r. ⌜ (r ≡ later tick (length (now (pitch .entry))) first) × Pitched (moved first) (now (pitch .exit)) (length (now (pitch .entry))) ⌝ }
 {
     let m = glide_on(first);
-    if same(m.pitch, first.pitch) {
+    if float::same(m.pitch, first.pitch) {
         return glide_held(first, pitch);
     }
     glide_moving(first, pitch)

@@ -1,12 +1,12 @@
--- `streaming::same` meets its contract. Assumes nothing.
+-- `float::same` meets its contract. Assumes nothing.
 use mathlib.Core.Path.{sym, ap, _∙_, subst}
 use lib.Dec.{T}
 use lib.Ieee.{binary32, ofBits}
 use lib.Ieee.Bits.{ofBits-toBits}
 use borrow.Author.Needs.{needs}
 use borrow.Author.Tests.{eqb-true}
-use Rattle.streaming.proofs.same.Statement.{statement}
-use Rattle.streaming.proofs.same.Tie as tie
+use Rattle.float.proofs.same.Statement.{statement}
+use Rattle.float.proofs.same.Tie as tie
 
 returns : tie.Need-returns
 returns c e =
