@@ -152,23 +152,21 @@ module _ (s : List ℕ) (n : ℕ) (a : Passed s n) where
   accepted = good s (a .passed)
 
   -- ---- owners
-  pub owned-turn : (i f k : ℕ) (t : List ℕ) → i < n → n ≤ length t → f ≡ first s i → k ≡ next s i → Owned s n i t → Owned s n (i + 1) (set (set t f i) k (getD (set t f i) i 0))
-  owned-turn i f k t h l ef ek w j d b c = elim (ℕ-discrete j k) [
+  pub owned-entry : (i : ℕ) (t : List ℕ) → i < n → Owned s n i t → i ≢ 0 → getD t i 0 ≡ owner s i
+  owned-entry i t h w d = w i d h (linker-below s accepted i d (omega (arith, a .count)))
+
+  pub owned-turn : (i o f k : ℕ) (t : List ℕ) → i < n → n ≤ length t → (i ≢ 0 → o ≡ owner s i) → f ≡ first s i → k ≡ next s i → Owned s n i t → Owned s n (i + 1) (set (set t f i) k o)
+  owned-turn i o f k t h l eo ef ek w j d b c = elim (ℕ-discrete j k) [
     | yes q ↦
         let e : next s i ≡ j = sym ek ∙ sym q in
         let z : i ≢ 0 = λ y. d (sym e ∙ ap (next s) y ∙ accepted .alone) in
-        let m : i ≢ f = λ y. turnless (sym ef ∙ sym y) z in
-        rw q (getD-set-same (set t f i) k (getD (set t f i) i 0) 0 (rw length-set (omega arith))) ∙ getD-set-other t f i i 0 m
-        ∙ w i z h (linker-below s accepted i z (omega (arith, a .count))) ∙ sym (owner-next s accepted i j e d)
-    | no q ↦ getD-set-other (set t f i) k j (getD (set t f i) i 0) 0 q ∙ elim (ℕ-discrete j f) [
+        rw q (getD-set-same (set t f i) k o 0 (rw length-set (omega arith))) ∙ eo z ∙ sym (owner-next s accepted i j e d)
+    | no q ↦ getD-set-other (set t f i) k j o 0 q ∙ elim (ℕ-discrete j f) [
       | yes p ↦ rw p (getD-set-same t f i 0 (omega arith)) ∙ sym (owner-first s accepted i j (sym ef ∙ sym p) d)
       | no p ↦ getD-set-other t f j i 0 p ∙ w j d b (below q p)
     ]
   ]
     where
-      turnless : first s i ≡ i → i ≢ 0 → ⊥
-      turnless e z = omega (arith, accepted .forest .first-up i (λ y. z (sym e ∙ y)))
-
       below : j ≢ k → j ≢ f → linker s j < i
       below q p = elim (ℕ-discrete (linker s j) i) [
         | yes e ↦ absurd (elim (linker-links s accepted j d (omega (arith, a .count))) [
@@ -208,8 +206,8 @@ module _ (s : List ℕ) (n : ℕ) (a : Passed s n) where
   ])
 
   -- ---- roles: by the owner's
-  pub root-is : (k : ℕ) → k ≡ kind s 0 → rootOf k ≡ roleCode (role s 0)
-  root-is k e = rw (role-root s accepted, e) (root-code (isProcessor (kind s 0)))
+  pub root-is : (i k : ℕ) → i ≡ 0 → k ≡ kind s i → rootOf k ≡ roleCode (role s i)
+  root-is i k z e = rw (e, z, role-root s accepted) (root-code (isProcessor (kind s 0)))
 
   pub role-is : (j o r ko kj t : ℕ) → j ≢ 0 → j < n → o ≡ owner s j → r ≡ roleCode (role s o) → ko ≡ kind s o → kj ≡ kind s j → t ≡ flag (trailing s j) → roleOf r ko kj t ≡ roleCode (role s j)
   role-is j o r ko kj t d h eo er eko ekj et =
@@ -274,21 +272,17 @@ module _ (s : List ℕ) (n : ℕ) (a : Passed s n) where
       is-from : next s (j - 1) ≢ 0 → getD froms (getD nexts (j - 1) 0) 0 ≡ stageFrom s (next s (j - 1))
       is-from d = df m (above (λ y. d (sym em ∙ y))) within ∙ ap (stageFrom s) em
 
-  pub roles-turn : (kinds owned lasts acts : List ℕ) → Table (kind s) n kinds → Table (owner s) n owned → Table (λ j. flag (trailing s j)) n lasts → (j : ℕ) → 0 < j → j < n → n ≤ length acts
-      → Below (λ k. roleCode (role s k)) j acts → (v : ℕ) → v ≡ roleOf (getD acts (getD owned j 0) 0) (getD kinds (getD owned j 0) 0) (getD kinds j 0) (getD lasts j 0)
-      → Below (λ k. roleCode (role s k)) (j + 1) (set acts j v)
-  roles-turn kinds owned lasts acts wk wo wl j z h la w v e =
-      let d : j ≢ 0 = omega arith in
-      let o = owner-entry owned wo j d h in
-      front-more (λ k. roleCode (role s k)) acts j v (omega arith) w
-      (e ∙ role-is j (getD owned j 0) _ _ _ _ d h (wo .at j h) (w (getD owned j 0) o) (wk .at (getD owned j 0) (omega arith)) (wk .at j h) (wl .at j h))
+  pub role-entry : (kinds lasts acts : List ℕ) → Table (kind s) n kinds → Table (λ j. flag (trailing s j)) n lasts → (j o : ℕ) → j ≢ 0 → j < n → o ≡ owner s j → Below (λ k. roleCode (role s k)) j acts
+      → roleOf (getD acts o 0) (getD kinds o 0) (getD kinds j 0) (getD lasts j 0) ≡ roleCode (role s j)
+  role-entry kinds lasts acts wk wl j o d h e w =
+      let b : o < j = omega (arith, owner-in j d h) in role-is j o _ _ _ _ d h e (w o b) (wk .at o (omega arith)) (wk .at j h) (wl .at j h)
 
-  pub begins-turn : (kinds firsts froms acts begins : List ℕ) → Table (kind s) n kinds → Table (first s) n firsts → Table (stageFrom s) n froms → Table (λ j. roleCode (role s j)) n acts
-      → (i : ℕ) → i < n → n ≤ length begins → Below (begin s) i begins → (v : ℕ) → v ≡ beginOf (getD acts i 0) (getD kinds i 0) (getD firsts i 0) (getD froms (getD firsts i 0) 0)
+  pub begins-turn : (kinds firsts froms begins : List ℕ) → Table (kind s) n kinds → Table (first s) n firsts → Table (stageFrom s) n froms
+      → (i r : ℕ) → i < n → r ≡ roleCode (role s i) → n ≤ length begins → Below (begin s) i begins → (v : ℕ) → v ≡ beginOf r (getD kinds i 0) (getD firsts i 0) (getD froms (getD firsts i 0) 0)
       → Below (begin s) (i + 1) (set begins i v)
-  begins-turn kinds firsts froms acts begins wk wf wr wa i h l w v e = front-more (begin s) begins i v (omega arith) w
-      (e ∙ begin-is i _ _ (getD firsts i 0) _ (wa .at i h) (wk .at i h) (wf .at i h) (wr .at (getD firsts i 0) (first-entry firsts wf i h)))
+  begins-turn kinds firsts froms begins wk wf wr i r h er l w v e = front-more (begin s) begins i v (omega arith) w
+      (e ∙ begin-is i _ _ (getD firsts i 0) _ er (wk .at i h) (wf .at i h) (wr .at (getD firsts i 0) (first-entry firsts wf i h)))
 
-  pub afters-turn : (nexts acts afters : List ℕ) → Table (next s) n nexts → Table (λ j. roleCode (role s j)) n acts
-      → (i : ℕ) → i < n → n ≤ length afters → Below (after s) i afters → (v : ℕ) → v ≡ afterOf (getD acts i 0) (getD nexts i 0) → Below (after s) (i + 1) (set afters i v)
-  afters-turn nexts acts afters wn wa i h l w v e = front-more (after s) afters i v (omega arith) w (e ∙ after-is i _ _ (wa .at i h) (wn .at i h))
+  pub afters-turn : (nexts afters : List ℕ) → Table (next s) n nexts
+      → (i r : ℕ) → i < n → r ≡ roleCode (role s i) → n ≤ length afters → Below (after s) i afters → (v : ℕ) → v ≡ afterOf r (getD nexts i 0) → Below (after s) (i + 1) (set afters i v)
+  afters-turn nexts afters wn i r h er l w v e = front-more (after s) afters i v (omega arith) w (e ∙ after-is i _ _ er (wn .at i h))

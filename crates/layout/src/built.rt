@@ -1,24 +1,30 @@
 // Tables over the records of an accepted sheet of `count` records, each written by one pass over those below it. The sheet itself is not read: it says what the tables hold.
 ghost use mathlib.Core.Path.{_≡_};
-ghost use Prim.Native.Nat.{_≤_};
+ghost use mathlib.Core.Logic.{_≢_};
+ghost use Prim.Native.Nat.{_+_, _≤_, _<_};
 ghost use lib.ListN.{length};
 ghost use Rattle.sheet.specs.Record.{kind, first, next};
 ghost use Rattle.layout.specs.Built.{owner, trailing, role, begin, after};
 ghost use Rattle.layout.specs.Roles.{stageFrom};
-ghost use Rattle.layout.specs.Tables.{Table, Passed, flag, roleCode, trailsOf, stageOf, roleOf, rootOf, beginOf, afterOf};
+ghost use Rattle.layout.specs.Tables.{Table, Passed, Below, Owned, flag, roleCode, trailsOf, stageOf, roleOf, rootOf, beginOf, afterOf};
 
-// In whose chain each record stands. A link of 0 writes to entry 0, which nothing reads and the end sets.
+// The owners of the records that i's links lead to: i of its first, and i's own, o, of its next. A link of 0 writes to entry 0, on which nothing rests: record 0 has no owner.
+fn own(sheet: &[u8], count: usize, i: usize, o: usize, f: usize, n: usize, owned: &mut [usize])
+    requires { ⌜ Passed (now sheet) count × (i < count) × (i ≢ 0 → o ≡ owner (now sheet) i) × (f ≡ first (now sheet) i) × (n ≡ next (now sheet) i) × (count ≤ length (now owned)) × Owned (now sheet) count i (now owned) ⌝ }
+    ensures { λ r. ⌜ Owned (now (sheet .entry)) count (i + 1) (now (owned .exit)) ⌝ }
+{
+    owned[f] = i;
+    owned[n] = o;
+}
+
+// In whose chain each record stands.
 pub fn owners(sheet: &[u8], count: usize, firsts: &[usize], nexts: &[usize], owned: &mut [usize])
     requires { ⌜ Passed (now sheet) count × Table (first (now sheet)) count (now firsts) × Table (next (now sheet)) count (now nexts) × (count ≤ length (now owned)) ⌝ }
     ensures { λ r. ⌜ Table (owner (now (sheet .entry))) count (now (owned .exit)) ⌝ }
 {
     let mut i = 0usize;
     while i < count {
-        let f = firsts[i];
-        owned[f] = i;
-        let o = owned[i];
-        let n = nexts[i];
-        owned[n] = o;
+        own(sheet, count, i, owned[i], firsts[i], nexts[i], owned);
         i += 1;
     }
     owned[0] = 0;
@@ -88,26 +94,23 @@ fn role_in(r: u8, o: u8, k: u8, t: u8) -> u8
     2
 }
 
-// Each record's role: 0 out, 1 silent, 2 built. Owners stand below, so the pass goes up.
-pub fn roles(
+// Record i's role by that of its owner o; record 0 has no owner.
+fn role_at(
     sheet: &[u8],
     count: usize,
     kinds: &[u8],
-    owned: &[usize],
     lasts: &[u8],
-    acts: &mut [u8],
-)
-    requires { ⌜ Passed (now sheet) count × Table (kind (now sheet)) count (now kinds) × Table (owner (now sheet)) count (now owned) × Table (λ j. flag (trailing (now sheet) j)) count (now lasts) × (count ≤ length (now acts)) ⌝ }
-    ensures { λ r. ⌜ Table (λ j. roleCode (role (now (sheet .entry)) j)) count (now (acts .exit)) ⌝ }
+    acts: &[u8],
+    i: usize,
+    o: usize,
+) -> u8
+    requires { ⌜ Passed (now sheet) count × Table (kind (now sheet)) count (now kinds) × Table (λ j. flag (trailing (now sheet) j)) count (now lasts) × (count ≤ length (now acts)) × Below (λ j. roleCode (role (now sheet) j)) i (now acts) × (i < count) × (i ≢ 0 → o ≡ owner (now sheet) i) ⌝ }
+    ensures { λ x. ⌜ x ≡ roleCode (role (now (sheet .entry)) i) ⌝ }
 {
-    acts[0] = root_role(kinds[0]);
-    let mut j = 1usize;
-    while j < count {
-        let o = owned[j];
-        let r = role_in(acts[o], kinds[o], kinds[j], lasts[j]);
-        acts[j] = r;
-        j += 1;
+    if i == 0 {
+        return root_role(kinds[i]);
     }
+    role_in(acts[o], kinds[o], kinds[i], lasts[i])
 }
 
 fn begin_at(r: u8, k: u8, f: usize, st: usize) -> usize
@@ -125,26 +128,34 @@ fn after_at(r: u8, n: usize) -> usize
     if r == 0 { 0 } else { n }
 }
 
-// The links of what is played.
-pub fn links(
+// Each record's role, 0 out, 1 silent, 2 built, and the links of what is played. What a record's role rests on stands below it, so one pass goes up.
+fn roles(
     sheet: &[u8],
     count: usize,
     kinds: &[u8],
     firsts: &[usize],
     nexts: &[usize],
+    lasts: &[u8],
     froms: &[usize],
-    acts: &[u8],
+    owned: &mut [usize],
+    acts: &mut [u8],
     begins: &mut [usize],
     afters: &mut [usize],
 )
-    requires { ⌜ Passed (now sheet) count × Table (kind (now sheet)) count (now kinds) × Table (first (now sheet)) count (now firsts) × Table (next (now sheet)) count (now nexts) × Table (stageFrom (now sheet)) count (now froms) × Table (λ j. roleCode (role (now sheet) j)) count (now acts) × (count ≤ length (now begins)) × (count ≤ length (now afters)) ⌝ }
-    ensures { λ r. ⌜ Table (begin (now (sheet .entry))) count (now (begins .exit)) × Table (after (now (sheet .entry))) count (now (afters .exit)) ⌝ }
+    requires { ⌜ Passed (now sheet) count × Table (kind (now sheet)) count (now kinds) × Table (first (now sheet)) count (now firsts) × Table (next (now sheet)) count (now nexts) × Table (λ j. flag (trailing (now sheet) j)) count (now lasts) × Table (stageFrom (now sheet)) count (now froms) ⌝ }
+    requires { ⌜ (count ≤ length (now owned)) × (count ≤ length (now acts)) × (count ≤ length (now begins)) × (count ≤ length (now afters)) ⌝ }
+    ensures { λ r. ⌜ Table (λ j. roleCode (role (now (sheet .entry)) j)) count (now (acts .exit)) × Table (begin (now (sheet .entry))) count (now (begins .exit)) × Table (after (now (sheet .entry))) count (now (afters .exit)) ⌝ }
 {
     let mut i = 0usize;
     while i < count {
+        let o = owned[i];
         let f = firsts[i];
-        begins[i] = begin_at(acts[i], kinds[i], f, froms[f]);
-        afters[i] = after_at(acts[i], nexts[i]);
+        let n = nexts[i];
+        let r = role_at(sheet, count, kinds, lasts, acts, i, o);
+        begins[i] = begin_at(r, kinds[i], f, froms[f]);
+        afters[i] = after_at(r, n);
+        acts[i] = r;
+        own(sheet, count, i, o, f, n, owned);
         i += 1;
     }
 }
@@ -167,16 +178,16 @@ pub fn plan(
     requires { ⌜ (count ≤ length (now owned)) × (count ≤ length (now lasts)) × (count ≤ length (now froms)) × (count ≤ length (now acts)) × (count ≤ length (now begins)) × (count ≤ length (now afters)) ⌝ }
     ensures { λ r. ⌜ Table (λ j. roleCode (role (now (sheet .entry)) j)) count (now (acts .exit)) × Table (begin (now (sheet .entry))) count (now (begins .exit)) × Table (after (now (sheet .entry))) count (now (afters .exit)) ⌝ }
 {
-    owners(sheet, count, firsts, nexts, owned);
     stages(sheet, count, kinds, nexts, lasts, froms);
-    roles(sheet, count, kinds, owned, lasts, acts);
-    links(
+    roles(
         sheet,
         count,
         kinds,
         firsts,
         nexts,
+        lasts,
         froms,
+        owned,
         acts,
         begins,
         afters,

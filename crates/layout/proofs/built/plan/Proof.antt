@@ -3,20 +3,28 @@ use borrow.Author.Needs.{needs}
 use Rattle.layout.proofs.built.plan.Statement.{statement}
 use Rattle.layout.proofs.built.plan.Tie as tie
 
-owners-requires : tie.Need-owners-requires
-owners-requires c κs = let p = (c .before .before .before .before .before .before .before .before .before .before .before) .pre in (p .0 .0, p .0 .2, p .0 .3, p .1 .0)
-
 stages-requires : tie.Need-stages-requires
-stages-requires c κs = let p = (c .before .before .before .before .before .before .before .before .before .before .before .before .before .before .before .before) .pre in (p .0 .0, p .0 .1, p .0 .3, p .1 .1, p .1 .2)
+stages-requires c κs = let p = (c .before .before .before .before .before .before .before .before .before .before .before .before) .pre in (p .0 .0, p .0 .1, p .0 .3, p .1 .1, p .1 .2)
 
 roles-requires : tie.Need-roles-requires
-roles-requires c κs = let p = (c .before .before .before .before .before .before .before .before .before .before .before .before .before .before .before .before .before .before .before .before .before .before .before .before) .pre in (p .0 .0, p .0 .1, (c .before .before .before .before .before .before .before .before .before .before .before .before .owners) .ensures, (c .before .before .before .before .before .before .before .stages) .ensures .0, p .1 .3)
-
-links-requires : tie.Need-links-requires
-links-requires c κs = let p = (c .before .before .before .before .before .before .before .before .before .before .before .before .before .before .before .before .before .before .before .before .before .before .before .before .before .before .before .before .before .before .before) .pre in (p .0 .0, p .0 .1, p .0 .2, p .0 .3, (c .before .before .before .before .before .before .before .before .before .before .before .before .before .before .stages) .ensures .1, (c .before .before .before .before .before .before .roles) .ensures, p .1 .4, p .1 .5)
+roles-requires c κs =
+    let p = (c .before .before .before .before .before .before .before .before .before .before .before .before .before .before .before .before .before .before .before .before .before .before .before) .pre in
+    let t = (c .before .before .before .before .before .before .before .before .before .before .stages) .ensures in
+    ((p .0 .0, p .0 .1, p .0 .2, p .0 .3, t .0, t .1), (p .1 .0, p .1 .3, p .1 .4, p .1 .5))
 
 returns : tie.Need-returns
-returns c = ((c .before .before .before .before .before .before .before .before .before .before .before .roles) .ensures, (c .before .before .before .before .links) .ensures .0, (c .before .before .before .before .links) .ensures .1)
+returns c = (c .before .before .before .before .before .before .before .before .roles) .ensures
 
 pub plan-spec : {M : Type 1} → statement M
-plan-spec = tie.close (tie.spec owners-requires stages-requires roles-requires links-requires (λ c. search needs) (λ c. search needs) (λ c. search needs) (λ c. search needs) (λ c. search needs) (λ c. search needs) returns)
+plan-spec =
+    tie.close
+    (tie.spec
+    stages-requires
+    roles-requires
+    (λ c. search needs)
+    (λ c. search needs)
+    (λ c. search needs)
+    (λ c. search needs)
+    (λ c. search needs)
+    (λ c. search needs)
+    returns)
