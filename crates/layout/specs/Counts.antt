@@ -101,32 +101,25 @@ cells-made s i k f rate m x part ep et ek ef em e =
     e ∙ ap (λ p. cellsWith p rate k m) ep ∙ ap (λ t. cellsWith (recordAt s i) t k m) et ∙ ap (λ k. cellsWith (recordAt s i) (rateOf s) k m) ek
     ∙ cells-is s i m (λ q. em (ek ∙ q) ∙ ap (λ f. length (spine (records s f))) ef)
 
--- ---- kinds and roles, by number, of records that need nothing
-abbrev pub Bare : ℕ → ℕ → Type 0
-Bare k r = (s : List ℕ) (i : ℕ) → k ≡ kind s i → r ≡ roleCode (role s i) → (cells s i ≡ 0) × (registers s i ≡ 0) × (scratch s i ≡ 0)
+-- ---- what needs nothing: a kind, and a record by its kind and its role
+abbrev pub Bare : ℕ → Type 0
+Bare k = ((r : List ℕ) (rate m : ℕ) → cellsWith r rate k m ≡ 0) × (registersWith k ≡ 0) × (scratchWith k ≡ 0)
+
+abbrev pub Unowning : ℕ → ℕ → Type 0
+Unowning k r = (s : List ℕ) (i : ℕ) → k ≡ kind s i → r ≡ roleCode (role s i) → (cells s i ≡ 0) × (registers s i ≡ 0) × (scratch s i ≡ 0)
 
 nothing : (b : Bool) (n : ℕ) → n ≡ 0 → cond b n 0 ≡ 0
 nothing true n e = e
 nothing false n e = refl
 
-pub bare-unbuilt : (k r : ℕ) → r < 2 → Bare k r
-bare-unbuilt k r h s i ek er = let e : isBuilt (role s i) ≡ false = ap isBuilt (sym (role-code (role s i)) ∙ ap codeRole (sym er)) ∙ code-unbuilt r h in (rw e, rw e, rw e)
+pub none-unbuilt : (k r : ℕ) → r < 2 → Unowning k r
+none-unbuilt k r h s i ek er = let e : isBuilt (role s i) ≡ false = ap isBuilt (sym (role-code (role s i)) ∙ ap codeRole (sym er)) ∙ code-unbuilt r h in (rw e, rw e, rw e)
 
--- values, modes and steps have no row, but Rand
-value-rows : (k : ℕ) → 35 < k → k ≢ 46 → ((r : List ℕ) (rate m : ℕ) → cellsWith r rate k m ≡ 0) × (registersWith k ≡ 0) × (scratchWith k ≡ 0)
-unfolding needOf
-value-rows k h d =
-    let n = ne-eqb 46 k (λ e. d (sym e)) in (
-      λ r rate m. sym (cells-other k _ _ _ _ _ _ (omega arith) (omega arith) (omega arith) (omega arith) (omega arith) (omega arith) (omega arith) (omega arith) (omega arith) (omega arith) (omega arith) (omega arith) (omega arith) (omega arith) (omega arith) (omega arith) (omega arith) (omega arith) (omega arith) (omega arith) (omega arith) (λ e. d (sym e))),
-      rw (ne-eqb 9 k (omega arith), ne-eqb 10 k (omega arith), ne-eqb 29 k (omega arith), ne-eqb 30 k (omega arith), ne-eqb 34 k (omega arith), n),
-      rw (ne-eqb 11 k (omega arith), ne-eqb 12 k (omega arith)),
-    )
-
-pub bare-value : (k r : ℕ) → 35 < k → k ≢ 46 → Bare k r
-bare-value k r h d s i ek er =
-    let w = value-rows (kind s i) (omega arith) (λ e. d (ek ∙ e)) in
+pub none-bare : (k r : ℕ) → Bare k → Unowning k r
+none-bare k r w s i ek er =
     let b = isBuilt (role s i) in
-    (nothing b _ (cells-with s i ∙ w .0 (recordAt s i) (rateOf s) (chainLength s i)), nothing b _ (registers-with s i ∙ w .1), nothing b _ (scratch-with s i ∙ w .2))
+    let c = cells-with s i ∙ ap (λ k. cellsWith (recordAt s i) (rateOf s) k (chainLength s i)) (sym ek) ∙ w .0 (recordAt s i) (rateOf s) (chainLength s i) in
+    (nothing b _ c, nothing b _ (registers-with s i ∙ ap registersWith (sym ek) ∙ w .1), nothing b _ (scratch-with s i ∙ ap scratchWith (sym ek) ∙ w .2))
 
 -- ---- a chain's length
 module _ (s : List ℕ) (g : Good s) where

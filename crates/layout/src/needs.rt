@@ -3,12 +3,12 @@ ghost use mathlib.Core.Path.{_≡_};
 ghost use mathlib.Core.Bool.{true, false};
 ghost use Prim.Native.Nat.{_+_, _*_, _≤_, _<_, min, max};
 ghost use lib.ListN.{length};
-ghost use Rattle.sheet.specs.Record.{rateOf, kind, first, next};
+ghost use Rattle.sheet.specs.Record.{kind, first, next};
 ghost use Rattle.sheet.specs.Tree.{records, spine};
 ghost use Rattle.layout.specs.Built.{role};
 ghost use Rattle.layout.specs.Needs.{noiseCells, reverbCells, cellsBy};
 ghost use Rattle.layout.specs.Tables.{Table, Passed, roleCode};
-ghost use Rattle.layout.specs.Counts.{cellsWith, registersWith, scratchWith, Bare, Placed};
+ghost use Rattle.layout.specs.Counts.{cellsWith, registersWith, scratchWith, Bare, Unowning, Placed};
 
 pub struct Needs {
     pub cells: u64,
@@ -129,33 +129,44 @@ fn modes(sheet: &[u8], count: usize, nexts: &[usize], k: u8, f: usize) -> u64
     }
 }
 
-// The cells of record i, of kind k and first f, where it is built.
-fn cells_at(
-    sheet: &[u8],
-    count: usize,
-    rate: u32,
-    nexts: &[usize],
-    i: usize,
-    k: u8,
-    f: usize,
-) -> usize
-    requires { ⌜ Passed (now sheet) count × (rate ≡ rateOf (now sheet)) × Table (next (now sheet)) count (now nexts) × (i < count) × (k ≡ kind (now sheet) i) × (f ≡ first (now sheet) i) ⌝ }
+// The cells of record i, of kind k and first f, where it is built. The rate is read here: were it read once for all records,
+// the compiler would work out the lines of a reverb for every sheet.
+fn cells_at(sheet: &[u8], count: usize, nexts: &[usize], i: usize, k: u8, f: usize) -> usize
+    requires { ⌜ Passed (now sheet) count × Table (next (now sheet)) count (now nexts) × (i < count) × (k ≡ kind (now sheet) i) × (f ≡ first (now sheet) i) ⌝ }
     ensures { λ x. ⌜ (x ≡ cellsBy (now (sheet .entry)) i) × (x ≤ 5760000) ⌝ }
 {
     let m = modes(sheet, count, nexts, k, f);
     let a = 24 + 40 * i;
-    cells_of(&sheet[a..], rate, k, m) as usize
+    cells_of(&sheet[a..], sheet::rate(sheet), k, m) as usize
 }
 
-// Whether a record of kind k and role act may need anything: where it is built. Half of all records are values, modes and
-// steps, above 35, which need nothing but for Rand; so the kind is asked first.
-fn owns(k: u8, act: u8) -> bool
-    ensures { λ r. ⌜ (r ≡ true → 2 ≤ act) × (r ≡ false → Bare k act) ⌝ }
+// Whether kind k needs nothing, as half of all records do.
+fn bare(k: u8) -> bool
+    ensures { λ r. ⌜ (r ≡ true → Bare k) ⌝ }
 {
-    if 35 < k {
-        if k != 46 {
-            return false;
-        }
+    match k {
+        7 => true,
+        8 => true,
+        13 => true,
+        21 => true,
+        33 => true,
+        41 => true,
+        42 => true,
+        43 => true,
+        44 => true,
+        45 => true,
+        51 => true,
+        52 => true,
+        _ => false,
+    }
+}
+
+// Whether a record of kind k and role act may need anything.
+fn owns(k: u8, act: u8) -> bool
+    ensures { λ r. ⌜ (r ≡ true → 2 ≤ act) × (r ≡ false → Unowning k act) ⌝ }
+{
+    if bare(k) {
+        return false;
     }
     if act < 2 { false } else { true }
 }
@@ -175,7 +186,6 @@ pub fn offsets(
     requires { ⌜ Passed (now sheet) count × Table (kind (now sheet)) count (now kinds) × Table (first (now sheet)) count (now firsts) × Table (next (now sheet)) count (now nexts) × Table (λ j. roleCode (role (now sheet) j)) count (now acts) × (count < length (now places)) × (count < length (now words)) × (count < length (now blocks)) ⌝ }
     ensures { λ r. ⌜ Placed (now (sheet .entry)) count (now (places .exit)) (now (words .exit)) (now (blocks .exit)) (r .cells) (r .registers) (r .scratch) ⌝ }
 {
-    let rate = sheet::rate(sheet);
     let mut c = 0usize;
     let mut r = 0usize;
     let mut s = 0usize;
@@ -186,7 +196,7 @@ pub fn offsets(
         blocks[i] = s;
         let k = kinds[i];
         if owns(k, acts[i]) {
-            c += cells_at(sheet, count, rate, nexts, i, k, firsts[i]);
+            c += cells_at(sheet, count, nexts, i, k, firsts[i]);
             r += registers_of(k) as usize;
             s += scratch_of(k) as usize;
         }

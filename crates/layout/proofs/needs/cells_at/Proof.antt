@@ -11,14 +11,14 @@ use Rattle.layout.proofs.needs.cells_at.Tie as tie
 modes-requires : tie.Need-modes-requires
 modes-requires c κs =
     let s = c .before .before in
-    (s .pre .0, s .pre .2, omega (arith, s .pre .5, first-low (s .args .sheet .now) (s .args .count) (s .pre .0) (s .args .i) (s .pre .3)))
+    (s .pre .0, s .pre .1, omega (arith, s .pre .4, first-low (s .args .sheet .now) (s .args .count) (s .pre .0) (s .args .i) (s .pre .2)))
 
 returns : tie.Need-returns
 returns c =
-    let s = c .before .before .before .before .before in
-    let m = c .before .before .modes in (
-      cells-made (s .args .sheet .now) (s .args .i) (s .args .k) (s .args .f) (s .args .rate) (m .result) (c .cells-of .result) _ (rest (s .args .sheet .now) (24 + 40 * s .args .i))
-          (s .pre .1) (s .pre .4) (s .pre .5) (m .ensures .0) (c .cells-of .ensures .0),
+    let s = c .before .before .before .before .before .before in
+    let m = c .before .before .before .modes in (
+      cells-made (s .args .sheet .now) (s .args .i) (s .args .k) (s .args .f) (c .before .rate .result) (m .result) (c .cells-of .result) _ (rest (s .args .sheet .now) (24 + 40 * s .args .i))
+          (c .before .rate .ensures) (s .pre .3) (s .pre .4) (m .ensures .0) (c .cells-of .ensures .0),
       c .cells-of .ensures .1,
     )
 
@@ -32,5 +32,6 @@ cells-at-spec =
     (λ c. search needs)
     (λ c. search needs)
     (λ c. search needs)
+    (λ c κs. search needs)
     (λ c κs. search needs)
     returns)

@@ -14,12 +14,12 @@ use Rattle.layout.proofs.needs.offsets.Statement.{statement}
 use Rattle.layout.proofs.needs.offsets.Tie as tie
 
 abbrev Inv-loop : tie.InvT-loop
-Inv-loop sheet count kinds firsts nexts acts places₀ words₀ blocks₀ rate c₀ r₀ s₀ i₀ places words blocks c r s i =
+Inv-loop sheet count kinds firsts nexts acts places₀ words₀ blocks₀ c₀ r₀ s₀ i₀ places words blocks c r s i =
     (i ≤ count) × (length places ≡ length places₀) × (length words ≡ length words₀) × (length blocks ≡ length blocks₀) × (c ≤ 5760000 * i) × (r ≤ 11 * i) × (s ≤ 256 * i)
     × (c ≡ cellsFrom sheet i) × (r ≡ registersFrom sheet i) × (s ≡ scratchFrom sheet i) × Below (cellsFrom sheet) i places × Below (registersFrom sheet) i words × Below (scratchFrom sheet) i blocks
 
 abbrev μ-loop : tie.MeasureT-loop
-μ-loop sheet count kinds firsts nexts acts places₀ words₀ blocks₀ rate c₀ r₀ s₀ i₀ places words blocks c r s i = count - i
+μ-loop sheet count kinds firsts nexts acts places₀ words₀ blocks₀ c₀ r₀ s₀ i₀ places words blocks c r s i = count - i
 
 loop-holds : tie.Need-loop-holds Inv-loop μ-loop
 unfolding sum
@@ -27,14 +27,14 @@ loop-holds c = (omega arith, refl, refl, refl, omega arith, omega arith, omega a
 
 cells-at-requires : tie.Need-cells-at-requires Inv-loop μ-loop
 cells-at-requires c κs =
-    let p = (c .before .before .before .before .before .before .before .before .before .before .before .before .before .before .before .before) .pre in
+    let p = (c .before .before .before .before .before .before .before .before .before .before .before .before .before .before .before) .pre in
     let l = c .before .before .before .before .before .before .loop in
     let h = (c .before .before .before .before .before .loop-test) .taken in
-    (p .0, (c .before .before .before .before .before .before .before .rate) .ensures, p .3, h, p .1 .at (l .i) h, p .2 .at (l .i) h)
+    (p .0, p .3, h, p .1 .at (l .i) h, p .2 .at (l .i) h)
 
 loop-again : tie.Need-loop-again Inv-loop μ-loop
 loop-again c =
-    let e = c .before .before .before .before .before .before .before .before .before .before .before .before .before .before .before in
+    let e = c .before .before .before .before .before .before .before .before .before .before .before .before .before .before in
     let l = c .before .before .before .before .before .loop in
     let h = (c .before .before .before .before .loop-test) .taken in
     let sheet = e .args .sheet .now in
@@ -72,7 +72,7 @@ same-length-3 c = simp length-set ((c .before .loop) .inv .3)
 
 returns : tie.Need-returns Inv-loop μ-loop
 returns c =
-    let e = c .before .before .before .before .before .before .before .before .before .before .before in
+    let e = c .before .before .before .before .before .before .before .before .before .before in
     let l = (c .before .loop) in
     let sheet = e .args .sheet .now in
     let wc = sums-done (cells sheet) (l .places) (e .args .count) (l .i) (l .c) (omega arith) (omega arith) (omega arith) (l .inv .10) (l .inv .7) in
@@ -96,7 +96,6 @@ offsets-spec =
     (tie.spec
     Inv-loop
     μ-loop
-    (λ c κs. omega (arith, (c .before .before .before .before .before .before .before .before) .pre .0 .long))
     loop-holds
     (λ c. omega arith)
     (λ c. omega arith)
