@@ -1,11 +1,14 @@
 -- det.rs's functions as dsp.rs calls them: worked out in f64 and rounded to f32 once.
-use lib.Ieee.{Float}
+use mathlib.Core.Path.{_≡_, refl, ap}
+use lib.Ieee.{Float, round, ofBits, ofInt, toSigned, isNan, neg, lt, add, sub, mul, div}
+use Rattle.float.specs.Whole.{wholeOf}
 use Rattle.cast.specs.Narrow.{narrowOf}
 use Rattle.det.specs.Trig.{sinOf, cosOf}
-use Rattle.det.specs.Exp.{expOf}
+use Rattle.det.specs.Double.{horner}
+use Rattle.det.specs.Exp.{powerOfTwo, expPoly, expOf, expm1Small}
 use Rattle.det.specs.Log.{lnOf, powOf, log10Of}
-use Rattle.det.specs.Tanh.{tanhOf}
-use Rattle.float.specs.Single.{_⊕_, one}
+use Rattle.det.specs.Tanh.{tanhAbove, tanhOf}
+use Rattle.float.specs.Single.{_⊕_, zero, one}
 
 abbrev pub sine : Float → Float
 sine x = narrowOf (sinOf x)
@@ -28,6 +31,14 @@ power x y = narrowOf (powOf x y)
 
 abbrev pub tangent : Float → Float
 tangent x = narrowOf (tanhOf x)
+
+tanh-zero : tanhOf zero ≡ zero
+unfolding tanhOf tanhAbove expm1Small ofInt isNan neg expOf expPoly powerOfTwo horner wholeOf ofBits toSigned lt add sub mul div
+tanh-zero = refl
+
+pub tangent-zero : tangent zero ≡ zero
+unfolding narrowOf ofBits round
+tangent-zero = ap narrowOf tanh-zero
 
 abbrev pub logarithm10 : Float → Float
 logarithm10 x = narrowOf (log10Of x)

@@ -83,12 +83,15 @@ averageOf shape xn f xPrev fPrev =
     let d = xn ⊖ xPrev in
     cond (lt (ofBits binary32 0x3727_c5ac) (absOf d)) ((f ⊖ fPrev) ⊘ d) (driveOf shape (half ⊗ (xn ⊕ xPrev)))
 
--- from the amplified sample and its antiderivative
-unfoldable pub driveBy : DriveShape → Float → Float → Drive → DriveOut
-driveBy shape xn f s =
-    let y = averageOf shape xn f (s .«x_prev») (s .«f_prev») in
+-- past the DC blocker: y is the average
+abbrev pub blocked : Float → Float → Float → Drive → DriveOut
+blocked y xn f s =
     let yb = y ⊖ s .«dc_x» ⊕ ofBits binary32 0x3f7f_df3b ⊗ s .«dc_y» in
     record { out = yb; drive = record { «x_prev» = xn; «f_prev» = f; «dc_x» = y; «dc_y» = yb } }
+
+-- from the amplified sample and its antiderivative
+unfoldable pub driveBy : DriveShape → Float → Float → Drive → DriveOut
+driveBy shape xn f s = blocked (averageOf shape xn f (s .«x_prev») (s .«f_prev»)) xn f s
 
 unfoldable pub driveStep : DriveShape → Float → Drive → Float → DriveOut
 driveStep shape amount s x = let xn = driven amount x in driveBy shape xn (antiderivativeOf shape xn) s

@@ -118,22 +118,20 @@ fn drive_ln_coshes(fs: &mut [f32], xs: &[f32])
     }
 }
 
-// From the amplified samples, in out, and their antiderivatives.
-fn drive_averages(
-    out: &mut [f32],
-    fs: &[f32],
-    shape: dsl::DriveShape,
-    s: proc::Drive,
-) -> proc::Drive
+// From the amplified samples, in out, and their antiderivatives. tanh is 0 at 0.
+fn drive_averages(out: &mut [f32], fs: &[f32], s: proc::Drive) -> proc::Drive
     requires { ⌜ (length (now out) ≤ length (now fs)) ⌝ }
-    ensures { λ v. ⌜ (now (out .exit) ≡ given (driveByStep (now (out .entry)) (now (fs .entry)) shape) s (length (now (out .entry)))) × (v ≡ after (driveByStep (now (out .entry)) (now (fs .entry)) shape) s (length (now (out .entry)))) ⌝ }
+    ensures { λ v. ⌜ (now (out .exit) ≡ given (driveByStep (now (out .entry)) (now (fs .entry)) Tanh) s (length (now (out .entry)))) × (v ≡ after (driveByStep (now (out .entry)) (now (fs .entry)) Tanh) s (length (now (out .entry)))) ⌝ }
 {
     let mut p = s;
+    let mut h = proc::Curved { x: 0.0, y: 0.0 };
     let mut k: usize = 0;
     while k < out.len() {
-        let r = proc::drive_by(shape, out[k], fs[k], p);
-        out[k] = r.out;
-        p = r.drive;
+        let r = proc::drive_after(dsl::DriveShape::Tanh, out[k], fs[k], p, h);
+        let step = r.step;
+        out[k] = step.out;
+        p = step.drive;
+        h = r.held;
         k += 1;
     }
     p
@@ -146,7 +144,7 @@ fn drive_tanh(out: &mut [f32], fs: &mut [f32], amount: &[f32], s: proc::Drive) -
     drive_amplified(out, amount);
     drive_decays(fs, out);
     drive_ln_coshes(fs, out);
-    drive_averages(out, fs, dsl::DriveShape::Tanh, s)
+    drive_averages(out, fs, s)
 }
 
 // Any shape, in one pass.

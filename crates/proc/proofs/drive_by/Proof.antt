@@ -6,7 +6,7 @@ use Rattle.proc.proofs.drive_by.Tie as tie
 
 returns : tie.Need-returns
 unfolding driveBy
-returns c = rw (c .before .before .averaged .ensures)
+returns c = rw ((c .dc-blocked) .ensures, (c .before .averaged) .ensures)
 
 pub drive-by-spec : {M : Type 1} → statement M
-drive-by-spec = tie.close (tie.spec (λ c κs. search needs) returns)
+drive-by-spec = tie.close (tie.spec (λ c κs. search needs) (λ c κs. search needs) returns)

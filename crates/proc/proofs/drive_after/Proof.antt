@@ -1,0 +1,15 @@
+-- `proc::drive_after` meets its contract. Assumes nothing.
+use Rattle.proc.specs.Effects.{driveBy}
+use borrow.Author.Needs.{needs}
+use Rattle.proc.proofs.drive_after.Statement.{statement}
+use Rattle.proc.proofs.drive_after.Tie as tie
+
+averaged-after-requires : tie.Need-averaged-after-requires
+averaged-after-requires c κs = (c) .pre
+
+returns : tie.Need-returns
+unfolding driveBy
+returns c = (rw ((c .dc-blocked) .ensures, (c .before .before .averaged-after) .ensures .0), (c .before .before .averaged-after) .ensures .1)
+
+pub drive-after-spec : {M : Type 1} → statement M
+drive-after-spec = tie.close (tie.spec averaged-after-requires (λ c κs. search needs) returns)
