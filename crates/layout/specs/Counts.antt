@@ -60,21 +60,18 @@ pub scratch-with : (s : List ℕ) (i : ℕ) → scratchBy s i ≡ scratchWith (k
 unfolding scratchBy
 scratch-with s i = refl
 
--- a kind without a row
-pub cells-other : (k v c d b m h : ℕ) → 1 ≢ k → 2 ≢ k → 3 ≢ k → 4 ≢ k → 5 ≢ k → 6 ≢ k → 9 ≢ k → 10 ≢ k → 22 ≢ k → 23 ≢ k → 24 ≢ k → 25 ≢ k → 26 ≢ k → 27 ≢ k → 28 ≢ k → 29 ≢ k → 30 ≢ k → 31 ≢ k → 32 ≢ k → 34 ≢ k → 35 ≢ k → 46 ≢ k → 0 ≡ needOf k (cellRows v c d b m h)
+-- a kind without a row, or Modal without modes
+pub cells-other : (k v c d b h : ℕ) → 1 ≢ k → 2 ≢ k → 3 ≢ k → 4 ≢ k → 5 ≢ k → 6 ≢ k → 9 ≢ k → 10 ≢ k → 22 ≢ k → 23 ≢ k → 24 ≢ k → 25 ≢ k → 26 ≢ k → 27 ≢ k → 28 ≢ k → 29 ≢ k → 30 ≢ k → 32 ≢ k → 34 ≢ k → 35 ≢ k → 46 ≢ k → 0 ≡ needOf k (cellRows v c d b 0 h)
 unfolding needOf
-cells-other k v c d b m h n1 n2 n3 n4 n5 n6 n9 n10 n22 n23 n24 n25 n26 n27 n28 n29 n30 n31 n32 n34 n35 n46 = rw (ne-eqb 1 k n1, ne-eqb 2 k n2, ne-eqb 3 k n3, ne-eqb 4 k n4, ne-eqb 5 k n5, ne-eqb 6 k n6, ne-eqb 9 k n9, ne-eqb 10 k n10, ne-eqb 22 k n22, ne-eqb 23 k n23, ne-eqb 24 k n24, ne-eqb 25 k n25, ne-eqb 26 k n26, ne-eqb 27 k n27, ne-eqb 28 k n28, ne-eqb 29 k n29, ne-eqb 30 k n30, ne-eqb 31 k n31, ne-eqb 32 k n32, ne-eqb 34 k n34, ne-eqb 35 k n35, ne-eqb 46 k n46)
+cells-other k v c d b h n1 n2 n3 n4 n5 n6 n9 n10 n22 n23 n24 n25 n26 n27 n28 n29 n30 n32 n34 n35 n46 = elim (ℕ-discrete 31 k) [
+  | yes q ↦ ap (λ k. needOf k (cellRows v c d b 0 h)) q
+  | no n31 ↦ rw (ne-eqb 1 k n1, ne-eqb 2 k n2, ne-eqb 3 k n3, ne-eqb 4 k n4, ne-eqb 5 k n5, ne-eqb 6 k n6, ne-eqb 9 k n9, ne-eqb 10 k n10, ne-eqb 22 k n22, ne-eqb 23 k n23, ne-eqb 24 k n24, ne-eqb 25 k n25, ne-eqb 26 k n26, ne-eqb 27 k n27, ne-eqb 28 k n28, ne-eqb 29 k n29, ne-eqb 30 k n30, ne-eqb 31 k n31, ne-eqb 32 k n32, ne-eqb 34 k n34, ne-eqb 35 k n35, ne-eqb 46 k n46)
+]
 
 -- a chain's length counts for Modal only
 no-modes : (k : ℕ) → 31 ≢ k → (r : List ℕ) (rate m n : ℕ) → cellsWith r rate k m ≡ cellsWith r rate k n
 unfolding needOf
 no-modes k d r rate m n = rw (ne-eqb 31 k d)
-
-pub cells-is : (s : List ℕ) (i m : ℕ) → (kind s i ≡ 31 → m ≡ chainLength s i) → cellsWith (recordAt s i) (rateOf s) (kind s i) m ≡ cellsBy s i
-cells-is s i m e = elim (ℕ-discrete 31 (kind s i)) [
-  | yes q ↦ ap (cellsWith (recordAt s i) (rateOf s) (kind s i)) (e (sym q)) ∙ sym (cells-with s i)
-  | no d ↦ no-modes (kind s i) d (recordAt s i) (rateOf s) m (chainLength s i) ∙ sym (cells-with s i)
-]
 
 -- a built record's needs are its kind's
 is-built : (s : List ℕ) (i r : ℕ) → r ≡ roleCode (role s i) → 2 ≤ r → role s i ≡ built
@@ -95,11 +92,14 @@ registers-some s i k r ek er h = rw (ek, is-built s i r er h, registers-with s i
 pub scratch-some : (s : List ℕ) (i k r : ℕ) → k ≡ kind s i → r ≡ roleCode (role s i) → 2 ≤ r → scratchWith k ≡ scratch s i
 scratch-some s i k r ek er h = rw (ek, is-built s i r er h, scratch-with s i)
 
-pub cells-made : (s : List ℕ) (i k f rate m x : ℕ) (part : List ℕ) → part ≡ recordAt s i → rate ≡ rateOf s → k ≡ kind s i → f ≡ first s i
-    → (k ≡ 31 → m ≡ length (spine (records s f))) → x ≡ cellsWith part rate k m → x ≡ cellsBy s i
-cells-made s i k f rate m x part ep et ek ef em e =
-    e ∙ ap (λ p. cellsWith p rate k m) ep ∙ ap (λ t. cellsWith (recordAt s i) t k m) et ∙ ap (λ k. cellsWith (recordAt s i) (rateOf s) k m) ek
-    ∙ cells-is s i m (λ q. em (ek ∙ q) ∙ ap (λ f. length (spine (records s f))) ef)
+pub cells-made : (s : List ℕ) (i k rate x : ℕ) (part : List ℕ) → part ≡ recordAt s i → rate ≡ rateOf s → k ≡ kind s i → k ≢ 31 → x ≡ cellsWith part rate k 0 → x ≡ cellsBy s i
+cells-made s i k rate x part ep et ek d e =
+    e ∙ ap (λ p. cellsWith p rate k 0) ep ∙ ap (λ t. cellsWith (recordAt s i) t k 0) et ∙ ap (λ k. cellsWith (recordAt s i) (rateOf s) k 0) ek ∙ no-modes (kind s i) (λ q. d (ek ∙ sym q)) (recordAt s i) (rateOf s) 0 (chainLength s i) ∙ sym (cells-with s i)
+
+pub modal-made : (s : List ℕ) (i k f n : ℕ) → k ≡ kind s i → f ≡ first s i → k ≡ 31 → n ≡ length (spine (records s f)) → 5 * n ≡ cellsBy s i
+unfolding needOf
+modal-made s i k f n ek ef z en =
+    ap (λ m. 5 * m) (en ∙ ap (λ f. length (spine (records s f))) ef) ∙ ap (λ k. cellsWith (recordAt s i) (rateOf s) k (chainLength s i)) (sym z ∙ ek) ∙ sym (cells-with s i)
 
 -- ---- what needs nothing: a kind, and a record by its kind and its role
 abbrev pub Bare : ℕ → Type 0

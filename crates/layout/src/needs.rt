@@ -46,11 +46,11 @@ fn reverb(rate: u32) -> u64
     combs + lens[6] + lens[7] + lens[8] + lens[9] + 6
 }
 
-// A record's cells, by the bytes from its first on, its kind, and how many records its chain has. A constant array by kind
+// A record's cells, by the bytes from its first on and its kind; not Modal's, which go by its chain. A constant array by kind
 // would be copied at each use; a match is a jump.
-fn cells_of(r: &[u8], rate: u32, k: u8, chain: u64) -> u64
-    requires { ⌜ (40 ≤ length (now r)) × (rate ≤ 192000) × (chain ≤ 256) ⌝ }
-    ensures { λ x. ⌜ (x ≡ cellsWith (now (r .entry)) rate k chain) × (x ≤ 5760000) ⌝ }
+fn cells_of(r: &[u8], rate: u32, k: u8) -> u64
+    requires { ⌜ (40 ≤ length (now r)) × (rate ≤ 192000) ⌝ }
+    ensures { λ x. ⌜ (x ≡ cellsWith (now (r .entry)) rate k 0) × (x ≤ 5760000) ⌝ }
 {
     match k {
         1 => 1,
@@ -70,7 +70,6 @@ fn cells_of(r: &[u8], rate: u32, k: u8, chain: u64) -> u64
         28 => 11,
         29 => lines::delay_line_len(sheet::number(r, 0), rate),
         30 => reverb(rate),
-        31 => 5 * chain,
         32 => 4,
         34 => lines::chorus_line_len(sheet::number(r, 1), rate),
         35 => 4,
@@ -117,27 +116,17 @@ pub fn chain_length(sheet: &[u8], count: usize, nexts: &[usize], f: usize) -> u6
     n
 }
 
-// A chain's length where it counts: Modal's.
-fn modes(sheet: &[u8], count: usize, nexts: &[usize], k: u8, f: usize) -> u64
-    requires { ⌜ Passed (now sheet) count × Table (next (now sheet)) count (now nexts) × (f < count) ⌝ }
-    ensures { λ r. ⌜ (k ≡ 31 → r ≡ length (spine (records (now (sheet .entry)) f))) × (r ≤ 256) ⌝ }
-{
-    if k == 31 {
-        chain_length(sheet, count, nexts, f)
-    } else {
-        0
-    }
-}
-
 // The cells of record i, of kind k and first f, where it is built. The rate is read here: were it read once for all records,
 // the compiler would work out the lines of a reverb for every sheet.
 fn cells_at(sheet: &[u8], count: usize, nexts: &[usize], i: usize, k: u8, f: usize) -> usize
     requires { ⌜ Passed (now sheet) count × Table (next (now sheet)) count (now nexts) × (i < count) × (k ≡ kind (now sheet) i) × (f ≡ first (now sheet) i) ⌝ }
     ensures { λ x. ⌜ (x ≡ cellsBy (now (sheet .entry)) i) × (x ≤ 5760000) ⌝ }
 {
-    let m = modes(sheet, count, nexts, k, f);
+    if k == 31 {
+        return 5 * chain_length(sheet, count, nexts, f) as usize;
+    }
     let a = 24 + 40 * i;
-    cells_of(&sheet[a..], sheet::rate(sheet), k, m) as usize
+    cells_of(&sheet[a..], sheet::rate(sheet), k) as usize
 }
 
 // Whether kind k needs nothing, as half of all records do.

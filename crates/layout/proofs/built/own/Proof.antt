@@ -1,5 +1,4 @@
 -- `layout::built::own` meets its contract. Links lead to records; no other record has a link from i. Assumes nothing.
-use mathlib.Core.Path.{_≡_}
 use Prim.Native.Nat.{_<_}
 use native.Mathlib.Omega.{arith}
 use lib.ListN.{length-set}

@@ -1,24 +1,28 @@
--- `layout::needs::cells_at` meets its contract. Its part of the sheet is the record. Assumes nothing.
+-- `layout::needs::cells_at` meets its contract. A Modal's go by its chain; for any other kind its part of the sheet is the record. Assumes nothing.
 use Prim.Native.Nat.{_+_, _*_}
 use native.Mathlib.Omega.{arith}
 use Rattle.sheet.specs.Laws.{rest}
 use Rattle.layout.specs.Tables.{first-low}
-use Rattle.layout.specs.Counts.{cells-made}
+use Rattle.layout.specs.Counts.{cells-made, modal-made}
 use borrow.Author.Needs.{needs}
 use Rattle.layout.proofs.needs.cells_at.Statement.{statement}
 use Rattle.layout.proofs.needs.cells_at.Tie as tie
 
-modes-requires : tie.Need-modes-requires
-modes-requires c κs =
-    let s = c .before .before in
+chain-length-requires : tie.Need-chain-length-requires
+chain-length-requires c κs =
+    let s = c .before .before .before in
     (s .pre .0, s .pre .1, omega (arith, s .pre .4, first-low (s .args .sheet .now) (s .args .count) (s .pre .0) (s .args .i) (s .pre .2)))
 
 returns : tie.Need-returns
 returns c =
-    let s = c .before .before .before .before .before .before in
-    let m = c .before .before .before .modes in (
-      cells-made (s .args .sheet .now) (s .args .i) (s .args .k) (s .args .f) (c .before .rate .result) (m .result) (c .cells-of .result) _ (rest (s .args .sheet .now) (24 + 40 * s .args .i))
-          (c .before .rate .ensures) (s .pre .3) (s .pre .4) (m .ensures .0) (c .cells-of .ensures .0),
+    let s = c .before .before .before .before in
+    (modal-made (s .args .sheet .now) (s .args .i) (s .args .k) (s .args .f) (c .chain-length .result) (s .pre .3) (s .pre .4) ((c .before .if1) .taken) (c .chain-length .ensures .0), omega arith)
+
+returns-2 : tie.Need-returns-2
+returns-2 c =
+    let s = c .before .before .before .before .before .before in (
+      cells-made (s .args .sheet .now) (s .args .i) (s .args .k) (c .before .rate .result) (c .cells-of .result) _ (rest (s .args .sheet .now) (24 + 40 * s .args .i)) (c .before .rate .ensures) (s .pre .3)
+          ((c .before .before .before .if1) .left) (c .cells-of .ensures .0),
       c .cells-of .ensures .1,
     )
 
@@ -26,7 +30,9 @@ pub cells-at-spec : {M : Type 1} → statement M
 cells-at-spec =
     tie.close
     (tie.spec
-    modes-requires
+    chain-length-requires
+    (λ c. search needs)
+    returns
     (λ c. search needs)
     (λ c. search needs)
     (λ c. search needs)
@@ -34,4 +40,4 @@ cells-at-spec =
     (λ c. search needs)
     (λ c κs. search needs)
     (λ c κs. search needs)
-    returns)
+    returns-2)

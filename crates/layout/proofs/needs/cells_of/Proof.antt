@@ -23,18 +23,14 @@ returns-17 : tie.Need-returns-17
 unfolding needOf
 returns-17 c = (rw ((c .before .match) .keys17, (c .reverb) .ensures .0), omega arith)
 
-returns-18 : tie.Need-returns-18
+returns-19 : tie.Need-returns-19
 unfolding needOf
-returns-18 c = (rw ((c .match) .keys18), omega arith)
+returns-19 c = (rw ((c .before .before .match) .keys19, (c .chorus-line-len) .ensures .0, (c .before .number2) .ensures), omega arith)
 
-returns-20 : tie.Need-returns-20
-unfolding needOf
-returns-20 c = (rw ((c .before .before .match) .keys20, (c .chorus-line-len) .ensures .0, (c .before .number2) .ensures), omega arith)
-
-returns-23 : tie.Need-returns-23
-returns-23 c =
+returns-22 : tie.Need-returns-22
+returns-22 c =
     let n = (c .match) .rest in
-    (cells-other ((c .before .before) .args .k) _ _ _ _ _ _ (λ e. n .0 .0 .0 .0 .0 .0 .0 .0 .0 .0 .0 .0 .0 .0 .0 .0 .0 .0 .0 .0 .0 .1 (sym e)) (λ e. n .0 .0 .0 .0 .0 .0 .0 .0 .0 .0 .0 .0 .0 .0 .0 .0 .0 .0 .0 .0 .1 (sym e)) (λ e. n .0 .0 .0 .0 .0 .0 .0 .0 .0 .0 .0 .0 .0 .0 .0 .0 .0 .0 .0 .1 (sym e)) (λ e. n .0 .0 .0 .0 .0 .0 .0 .0 .0 .0 .0 .0 .0 .0 .0 .0 .0 .0 .1 (sym e)) (λ e. n .0 .0 .0 .0 .0 .0 .0 .0 .0 .0 .0 .0 .0 .0 .0 .0 .0 .1 (sym e)) (λ e. n .0 .0 .0 .0 .0 .0 .0 .0 .0 .0 .0 .0 .0 .0 .0 .0 .1 (sym e)) (λ e. n .0 .0 .0 .0 .0 .0 .0 .0 .0 .0 .0 .0 .0 .0 .0 .1 (sym e)) (λ e. n .0 .0 .0 .0 .0 .0 .0 .0 .0 .0 .0 .0 .0 .0 .1 (sym e)) (λ e. n .0 .0 .0 .0 .0 .0 .0 .0 .0 .0 .0 .0 .0 .1 (sym e)) (λ e. n .0 .0 .0 .0 .0 .0 .0 .0 .0 .0 .0 .0 .1 (sym e)) (λ e. n .0 .0 .0 .0 .0 .0 .0 .0 .0 .0 .0 .1 (sym e)) (λ e. n .0 .0 .0 .0 .0 .0 .0 .0 .0 .0 .1 (sym e)) (λ e. n .0 .0 .0 .0 .0 .0 .0 .0 .0 .1 (sym e)) (λ e. n .0 .0 .0 .0 .0 .0 .0 .0 .1 (sym e)) (λ e. n .0 .0 .0 .0 .0 .0 .0 .1 (sym e)) (λ e. n .0 .0 .0 .0 .0 .0 .1 (sym e)) (λ e. n .0 .0 .0 .0 .0 .1 (sym e)) (λ e. n .0 .0 .0 .0 .1 (sym e)) (λ e. n .0 .0 .0 .1 (sym e)) (λ e. n .0 .0 .1 (sym e)) (λ e. n .0 .1 (sym e)) (λ e. n .1 (sym e)), omega arith)
+    (cells-other ((c .before .before) .args .k) _ _ _ _ _ (λ e. n .0 .0 .0 .0 .0 .0 .0 .0 .0 .0 .0 .0 .0 .0 .0 .0 .0 .0 .0 .0 .1 (sym e)) (λ e. n .0 .0 .0 .0 .0 .0 .0 .0 .0 .0 .0 .0 .0 .0 .0 .0 .0 .0 .0 .1 (sym e)) (λ e. n .0 .0 .0 .0 .0 .0 .0 .0 .0 .0 .0 .0 .0 .0 .0 .0 .0 .0 .1 (sym e)) (λ e. n .0 .0 .0 .0 .0 .0 .0 .0 .0 .0 .0 .0 .0 .0 .0 .0 .0 .1 (sym e)) (λ e. n .0 .0 .0 .0 .0 .0 .0 .0 .0 .0 .0 .0 .0 .0 .0 .0 .1 (sym e)) (λ e. n .0 .0 .0 .0 .0 .0 .0 .0 .0 .0 .0 .0 .0 .0 .0 .1 (sym e)) (λ e. n .0 .0 .0 .0 .0 .0 .0 .0 .0 .0 .0 .0 .0 .0 .1 (sym e)) (λ e. n .0 .0 .0 .0 .0 .0 .0 .0 .0 .0 .0 .0 .0 .1 (sym e)) (λ e. n .0 .0 .0 .0 .0 .0 .0 .0 .0 .0 .0 .0 .1 (sym e)) (λ e. n .0 .0 .0 .0 .0 .0 .0 .0 .0 .0 .0 .1 (sym e)) (λ e. n .0 .0 .0 .0 .0 .0 .0 .0 .0 .0 .1 (sym e)) (λ e. n .0 .0 .0 .0 .0 .0 .0 .0 .0 .1 (sym e)) (λ e. n .0 .0 .0 .0 .0 .0 .0 .0 .1 (sym e)) (λ e. n .0 .0 .0 .0 .0 .0 .0 .1 (sym e)) (λ e. n .0 .0 .0 .0 .0 .0 .1 (sym e)) (λ e. n .0 .0 .0 .0 .0 .1 (sym e)) (λ e. n .0 .0 .0 .0 .1 (sym e)) (λ e. n .0 .0 .0 .1 (sym e)) (λ e. n .0 .0 .1 (sym e)) (λ e. n .0 .1 (sym e)) (λ e. n .1 (sym e)), omega arith)
 
 pub cells-of-spec : {M : Type 1} → statement M
 unfolding needOf
@@ -49,7 +45,6 @@ cells-of-spec =
     (λ c κs. search needs)
     (λ c κs. search needs)
     (λ c κs. search needs)
-    (λ c. search needs)
     (λ c κs. search needs)
     (λ c κs. search needs)
     (λ c. (rw ((c .match) .keys1), omega arith))
@@ -69,9 +64,8 @@ cells-of-spec =
     (λ c. (rw ((c .match) .keys15), omega arith))
     returns-16
     returns-17
-    returns-18
-    (λ c. (rw ((c .match) .keys19), omega arith))
-    returns-20
+    (λ c. (rw ((c .match) .keys18), omega arith))
+    returns-19
+    (λ c. (rw ((c .match) .keys20), omega arith))
     (λ c. (rw ((c .match) .keys21), omega arith))
-    (λ c. (rw ((c .match) .keys22), omega arith))
-    returns-23)
+    returns-22)
