@@ -8,7 +8,7 @@ use native.Mathlib.Nat.{le-trans, zero-lt-suc, le-div-iff-mul-le}
 use native.Mathlib.Omega.{arith}
 use lib.ListN.{getD}
 use lib.Dec.{T, ltb→lt, lt→ltb, lit≤, lit<}
-use lib.Ieee.{Float, nan, inf, fin, binary32, up, down, lt, le, eq, ofBits, round, add, mul, div, toUnsigned}
+use lib.Ieee.{Float, nan, inf, fin, binary32, up, down, lt, le, eq, ofBits, ofInt, units, round, add, mul, div, toUnsigned}
 use lib.Ieee.Fits.{down-pos}
 use lib.Ieee.Exact.{HasValue}
 use Rattle.float.specs.Order.{minOf}
@@ -212,3 +212,17 @@ tuned-ge t sr = omega arith
 -- a contract's three facts
 pub within : {r n lo hi : ℕ} → r ≡ n → lo ≤ n → n ≤ hi → (r ≡ n) × (lo ≤ r) × (r ≤ hi)
 within e l u = (e, omega arith, omega arith)
+
+-- the tunings as the code has them
+pub tunings : (ofBits binary32 0x448b_8000 ≡ single 1116)
+    × (ofBits binary32 0x4494_8000 ≡ single 1188)
+    × (ofBits binary32 0x449f_a000 ≡ single 1277)
+    × (ofBits binary32 0x44a9_8000 ≡ single 1356)
+    × (ofBits binary32 0x44b1_c000 ≡ single 1422)
+    × (ofBits binary32 0x44ba_6000 ≡ single 1491)
+    × (ofBits binary32 0x440b_0000 ≡ single 556)
+    × (ofBits binary32 0x43dc_8000 ≡ single 441)
+    × (ofBits binary32 0x43aa_8000 ≡ single 341)
+    × (ofBits binary32 0x4361_0000 ≡ single 225)
+unfolding ofBits ofInt round units
+tunings = (refl, refl, refl, refl, refl, refl, refl, refl, refl, refl)

@@ -76,3 +76,28 @@ pub fn reverb_lens(sr: u32, lens: &mut [u64])
     lens[8] = tuned_by(341.0, scale);
     lens[9] = tuned_by(225.0, scale);
 }
+
+fn tuned_apart(t: f32, scale: f32) -> u64
+    ensures { λ r. ⌜ ((n sr : ℕ) → t ≡ single n → scale ≡ div binary32 (single sr) tuningRate → r ≡ tunedLine n sr) ⌝ }
+{
+    at_least_one(cast::f32_to_u64(t * scale))
+}
+
+// The same by the general cast, which is too long to be put in line. A kernel that has the short form in line keeps the
+// lengths two to a vector, and takes half as long again for each sample.
+pub fn reverb_lens_apart(sr: u32, lens: &mut [u64])
+    requires { ⌜ (sr ≤ 192000) × (length (now lens) ≡ 10) ⌝ }
+    ensures { λ v. ⌜ (now (lens .exit) ≡ reverbLines sr) × ((k : ℕ) → (1 ≤ combLine k sr) × (combLine k sr ≤ 6491)) × ((k : ℕ) → (1 ≤ allpassLine k sr) × (allpassLine k sr ≤ 2420)) ⌝ }
+{
+    let scale = cast::u32_to_f32(sr) / 44100.0;
+    lens[0] = tuned_apart(1116.0, scale);
+    lens[1] = tuned_apart(1188.0, scale);
+    lens[2] = tuned_apart(1277.0, scale);
+    lens[3] = tuned_apart(1356.0, scale);
+    lens[4] = tuned_apart(1422.0, scale);
+    lens[5] = tuned_apart(1491.0, scale);
+    lens[6] = tuned_apart(556.0, scale);
+    lens[7] = tuned_apart(441.0, scale);
+    lens[8] = tuned_apart(341.0, scale);
+    lens[9] = tuned_apart(225.0, scale);
+}

@@ -48,7 +48,7 @@ fn reverb(r: &[u8], sr: u32, out: &mut [f32], cells: &mut [f32], regs: &mut [u64
     ensures { λ v. ⌜ ((c : Controls) → Ran (reverbUnit (feedbackOf (numberOf (now (r .entry)) 0)) (clampOf (numberOf (now (r .entry)) 1) zero one) sr) c [] (now (out .entry)) (now (cells .entry)) (now (regs .entry)) (now (out .exit)) (now (cells .exit)) (now (regs .exit))) ⌝ }
 {
     let mut lens = [0u64; 10];
-    lines::reverb_lens(sr, &mut lens);
+    lines::reverb_lens_apart(sr, &mut lens);
     reverb_lines(r, &lens, out, cells, regs);
 }
 

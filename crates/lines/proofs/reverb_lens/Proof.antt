@@ -1,32 +1,18 @@
 -- `lines::reverb_lens` meets its contract. Assumes nothing.
-use mathlib.Core.Path.{_≡_, refl, ap, _∙_}
+use mathlib.Core.Path.{_≡_, ap, _∙_}
 use mathlib.Core.List.{[], _∷_}
 use Prim.Native.Nat.{ℕ, _≤_}
 use native.Mathlib.Omega.{arith}
 use lib.Seq.{length-sets, lt-length-sets}
 use lib.Dec.{T, lit≤}
-use lib.Ieee.{Float, binary32, ofBits, ofInt, round, units, mul, div, lt}
+use lib.Ieee.{Float, binary32, mul, div, lt}
 use Rattle.tree.specs.Lists.{stored}
 use Rattle.ieee.proofs.Tests.{two-to}
 use Rattle.lines.specs.Lines.{single, tuningRate}
-use Rattle.lines.proofs.Lengths.{tuned-ge, tuned-small, comb-le, allpass-le}
+use Rattle.lines.proofs.Lengths.{tunings, tuned-ge, tuned-small, comb-le, allpass-le}
 use borrow.Author.Needs.{needs}
 use Rattle.lines.proofs.reverb_lens.Statement.{statement}
 use Rattle.lines.proofs.reverb_lens.Tie as tie
-
--- the tunings as the code has them
-tunings : (ofBits binary32 0x448b_8000 ≡ single 1116)
-    × (ofBits binary32 0x4494_8000 ≡ single 1188)
-    × (ofBits binary32 0x449f_a000 ≡ single 1277)
-    × (ofBits binary32 0x44a9_8000 ≡ single 1356)
-    × (ofBits binary32 0x44b1_c000 ≡ single 1422)
-    × (ofBits binary32 0x44ba_6000 ≡ single 1491)
-    × (ofBits binary32 0x440b_0000 ≡ single 556)
-    × (ofBits binary32 0x43dc_8000 ≡ single 441)
-    × (ofBits binary32 0x43aa_8000 ≡ single 341)
-    × (ofBits binary32 0x4361_0000 ≡ single 225)
-unfolding ofBits ofInt round units
-tunings = (refl, refl, refl, refl, refl, refl, refl, refl, refl, refl)
 
 asked : (s : tie.Start) {x y : Float} → x ≡ single (s .args .sr) → (n : ℕ) → y ≡ single n → n ≤ 1491 → T (lt (mul binary32 y (div binary32 x tuningRate)) (two-to 20))
 asked s e n f l = tuned-small (s .args .sr) (s .pre .0) n l f (ap (λ x. div binary32 x tuningRate) e)
