@@ -83,8 +83,8 @@ fn tuned_apart(t: f32, scale: f32) -> u64
     at_least_one(cast::f32_to_u64(t * scale))
 }
 
-// The same by the general cast, which is too long to be put in line. A kernel that has the short form in line keeps the
-// lengths two to a vector, and takes half as long again for each sample.
+// The same by the general cast, for the kernel. With the short form the compiler keeps lengths and places two to a vector,
+// where words of 64 bits are slow to compare, and a sample takes half as long again.
 pub fn reverb_lens_apart(sr: u32, lens: &mut [u64])
     requires { ⌜ (sr ≤ 192000) × (length (now lens) ≡ 10) ⌝ }
     ensures { λ v. ⌜ (now (lens .exit) ≡ reverbLines sr) × ((k : ℕ) → (1 ≤ combLine k sr) × (combLine k sr ≤ 6491)) × ((k : ℕ) → (1 ≤ allpassLine k sr) × (allpassLine k sr ≤ 2420)) ⌝ }
