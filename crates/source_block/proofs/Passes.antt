@@ -1,4 +1,4 @@
--- Sine in two passes is Sine, and Fm in four is Fm. Assumes nothing.
+-- Sine and Env in two passes are Sine and Env, and Fm in four is Fm. Assumes nothing.
 use mathlib.Core.Path.{_≡_, refl, ap, _∙_}
 use mathlib.Core.List.{List, map}
 use Prim.Native.Nat.{ℕ, zero, suc, _<_}
@@ -9,10 +9,12 @@ use Rattle.float.specs.Single.{_⊕_, _⊗_, tau}
 use Rattle.dsp.specs.Math.{sine}
 use Rattle.dsp.specs.Map.{map-tab, mapped-length, mapped-at}
 use Rattle.render.specs.Osc.{oscOf}
-use Rattle.block.specs.Iterate.{at, after, given, sampleAt}
+use Rattle.dsp.specs.Envelope.{adsrOf}
+use Rattle.block.specs.Iterate.{at, after, given, sampleAt, given-length, given-at}
 use Rattle.source.specs.Oscillators.{sineOf, fmOf}
+use Rattle.source.specs.Others.{envOf}
 use Rattle.source_block.specs.declared.Fm.{Fm}
-use Rattle.source_block.specs.Steps.{sineStep, sineArgumentStep, fmStep, modulatorStep, carrierStep}
+use Rattle.source_block.specs.Steps.{sineStep, sineArgumentStep, fmStep, modulatorStep, carrierStep, envStep, secondsStep, envLevelStep}
 
 module _ (f pitch : List Float) (srf phase : Float) where
   abbrev whole-sine : ℕ → Float → Float × Float
@@ -68,3 +70,16 @@ module _ (f index pitch ms : List Float) (ratio srf : Float) (s : Fm) (n : ℕ) 
     pub given-fm : map sine (given carrier (s .cph) (length ms)) ≡ given whole-fm s n
     unfolding given
     given-fm = rw length-ms (map-tab sine n (sampleAt carrier (s .cph)) ∙ tab-eq n (λ k. sine (sampleAt carrier (s .cph) k)) (sampleAt whole-fm s) sample-is)
+
+-- ys are the seconds of a block of n
+module _ (a d s r punch srf relStart : Float) (t n : ℕ) (ys : List Float) (is-ys : ys ≡ given (secondsStep srf t) tt n) where
+  env-length : length ys ≡ n
+  env-length = ap length is-ys ∙ given-length (secondsStep srf t) tt n
+
+  env-sample : (k : ℕ) → k < n → sampleAt (envLevelStep ys a d s r punch relStart) tt k ≡ sampleAt (envStep a d s r punch srf relStart t) tt k
+  unfolding envLevelStep secondsStep envStep envOf
+  env-sample k h = ap (λ (y : Float). adsrOf y a d s r punch relStart) (ap (λ (l : List Float). at l k) is-ys ∙ given-at (secondsStep srf t) tt n k nan h)
+
+  pub given-env : given (envLevelStep ys a d s r punch relStart) tt (length ys) ≡ given (envStep a d s r punch srf relStart t) tt n
+  unfolding given
+  given-env = rw env-length (tab-eq n (sampleAt (envLevelStep ys a d s r punch relStart) tt) (sampleAt (envStep a d s r punch srf relStart t) tt) env-sample)

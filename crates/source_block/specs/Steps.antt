@@ -4,6 +4,8 @@ use Prim.Native.Nat.{ℕ, _+_}
 use lib.Ieee.{Float}
 use Rattle.float.specs.Single.{_⊕_, _⊗_, _⊘_, tau}
 use Rattle.block.specs.Iterate.{at}
+use Rattle.dsp.specs.Envelope.{adsrOf}
+use Rattle.value.specs.Modulators.{secondsOf}
 use Rattle.source.specs.Oscillators.{hertz, increment, advance, sineOf, squareOf, sawOf, triangleOf, fmOf}
 use Rattle.source.specs.Others.{impactOf, envOf, whiteOf, pinkOf, brownOf, dustOf}
 use Rattle.source.specs.declared.Poles.{Poles}
@@ -70,6 +72,13 @@ impactStep w norm t k s = (impactOf w norm (t + k), s)
 
 unfoldable pub envStep : Float → Float → Float → Float → Float → Float → Float → ℕ → ℕ → Unit {0} → Float × Unit {0}
 envStep a d s r punch srf relStart t k u = (envOf a d s r punch srf relStart (t + k), u)
+
+-- its passes: the seconds; the envelope at the seconds ys
+unfoldable pub secondsStep : Float → ℕ → ℕ → Unit {0} → Float × Unit {0}
+secondsStep srf t k u = (secondsOf (t + k) srf, u)
+
+unfoldable pub envLevelStep : List Float → Float → Float → Float → Float → Float → Float → ℕ → Unit {0} → Float × Unit {0}
+envLevelStep ys a d s r punch relStart k u = (adsrOf (at ys k) a d s r punch relStart, u)
 
 abbrev pub pinkState : ℕ → Poles → Pink
 pinkState word poles = record { word = word; poles = poles }
