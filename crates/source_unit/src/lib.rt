@@ -71,7 +71,7 @@ fn super_voices(out: &mut [f32], v: &[f32], pitch: &[f32], r: &[u8], srf: f32, c
     ensures { λ x. ⌜ RanPitched (superUnit (superWaveOf (optionOf (now (r .entry)))) (voicesOf (now (r .entry))) srf) (now (v .entry) ∷ []) (now (pitch .entry)) (now (out .entry)) (now (cells .entry)) (now (out .exit)) (now (cells .exit)) ⌝ }
 {
     let wave = dsl::super_wave_of(sheet::option(r));
-    let n = layout::needs::voices(sheet::bits(r, 0)) as usize;
+    let n = layout::voices(sheet::bits(r, 0)) as usize;
     bank_block::super_block(out, v, pitch, wave, srf, n, cells);
 }
 

@@ -71,7 +71,7 @@ pub fn super_start(r: &[u8], own: &mut [f32])
     requires { ⌜ (40 ≤ length (now r)) × (length (now own) ≡ 2 * voicesOf (now r)) ⌝ }
     ensures { λ x. ⌜ now (own .exit) ≡ superStart (voicesOf (now (r .entry))) (numberOf (now (r .entry)) 1) ⌝ }
 {
-    let n = layout::needs::voices(sheet::bits(r, 0));
+    let n = layout::voices(sheet::bits(r, 0));
     let cents = sheet::number(r, 1);
     let m = n as usize;
     phases(&mut own[..m], n);

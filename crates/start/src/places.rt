@@ -54,7 +54,7 @@ pub fn paths_in(
     requires { ⌜ (count ≤ length (now owned)) × (count ≤ length (now placed)) × (count ≤ length (now to)) ⌝ }
     ensures { λ r. ⌜ Table (path (now (sheet .entry))) count (now (to .exit)) ⌝ }
 {
-    layout::built::owners(sheet, count, firsts, nexts, owned);
+    roles::owners(sheet, count, firsts, nexts, owned);
     places(sheet, count, firsts, nexts, placed);
     down(sheet, count, owned, placed, to);
 }

@@ -52,7 +52,7 @@ pub fn measure(
     }
     let count = sheet::count(sheet);
     // The passes of the plan are lent the tables that are set after it.
-    layout::built::plan(
+    roles::plan(
         sheet,
         count,
         kinds,
@@ -65,7 +65,7 @@ pub fn measure(
         begins,
         afters,
     );
-    let n = layout::needs::offsets(
+    let n = offsets::offsets(
         sheet,
         count,
         kinds,

@@ -100,7 +100,7 @@ fn arp(
     requires { ⌜ Passed (now sheet) count × Table (next (now sheet)) count (now nexts) × (first < count) × (t + length (now out) < 2 ^ 64) ⌝ }
     ensures { λ x. ⌜ now (out .exit) ≡ given (arpStep (stepsFrom (now (sheet .entry)) first) rate srf t) tt (length (now (out .entry))) ⌝ }
 {
-    let n = layout::needs::chain_length(sheet, count, nexts, first);
+    let n = layout::chain_length(sheet, count, nexts, first);
     if n == 0 {
         block::fill_block(out, 0.0);
         return;
