@@ -8,7 +8,7 @@ use native.Mathlib.Omega.{arith}
 use lib.Dec.{eqb, leb}
 use lib.ListN.{length, drop, replicate}
 use lib.Ieee.{Float}
-use borrow.Author.Tests.{ne-eqb, leb-true, le-leb, lt-leb}
+use borrow.Author.Tests.{ne-eqb, le-leb, lt-leb}
 use Rattle.control.specs.declared.Controls.{Controls}
 use Rattle.control.specs.Moves.{leftFor}
 use Rattle.sheet.specs.Record.{countOf}
@@ -87,10 +87,6 @@ sound-early s c cs rs h = rw (le-leb (c .position) (2 ^ 62) h)
 
 pub sound-late : (s : List ℕ) (c : Controls) (cs : List Float) (rs : List ℕ) → 2 ^ 62 < c .position → soundOk s c cs rs ≡ false
 sound-late s c cs rs h = rw (lt-leb (c .position) (2 ^ 62) h)
-
-pub left-most : (p n : ℕ) → leftFor p n ≡ true → p + n ≤ 2 ^ 62
-unfolding leftFor
-left-most p n e = leb-true (p + n) (2 ^ 62) e
 
 and-right : (a b : Bool) → a && b ≡ true → b ≡ true
 and-right true b e = e

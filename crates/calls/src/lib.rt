@@ -1,16 +1,12 @@
 // The calls of the player on an accepted sheet, with its tables lent to them.
 ghost use mathlib.Core.Path.{_≡_};
-ghost use Prim.Native.Nat.{_+_, _≤_, _<_};
 ghost use lib.ListN.{length};
-ghost use Rattle.control.specs.Moves.{leftFor};
 ghost use Rattle.sheet.specs.Record.{countOf};
 ghost use Rattle.layout.specs.Needs.{scratchFrom};
 ghost use Rattle.machine.specs.Machine.{soundOk, roomCheck};
-ghost use Rattle.streaming.specs.Run.{Set, Blocked};
-ghost use Rattle.walk.specs.Walk.{Sound};
 ghost use Rattle.tables.specs.Tables.{Made};
 ghost use Rattle.calls.specs.Calls.{Fills, Builds};
-ghost use mathlib.Core.Bool.{true, false};
+ghost use mathlib.Core.Bool.{false};
 
 // The answer and the controls after a call.
 #[repr(C)]
@@ -42,75 +38,7 @@ fn sound_ok(
     if c.position > 4611686018427387904 {
         return false;
     }
-    state::rings_ok(sheet, count, acts, places, words, cells, regs)
-}
-
-// The buffers of a fill, for the values of a record and the pitch: smaller ones, which are zeroed sooner, for a short fill.
-fn run(
-    sheet: &[u8],
-    count: usize,
-    nexts: &[usize],
-    acts: &[u8],
-    begins: &[usize],
-    afters: &[usize],
-    places: &[usize],
-    words: &[usize],
-    blocks: &[usize],
-    c: control::Controls,
-    out: &mut [f32],
-    cells: &mut [f32],
-    regs: &mut [u64],
-    scr: &mut [f32],
-) -> control::Controls
-    requires { ⌜ Set (now sheet) count (now nexts) (now acts) (now begins) (now afters) (now places) (now words) (now blocks) (length (now scr)) × Sound (now sheet) (now cells) (now regs) × (leftFor (c .position) (length (now out)) ≡ true) ⌝ }
-    ensures { λ r. ⌜ Blocked (now (sheet .entry)) (length (now (out .entry))) c (now (cells .entry)) (now (regs .entry)) (now (scr .entry)) r (now (out .exit)) (now (cells .exit)) (now (regs .exit)) (now (scr .exit)) ⌝ }
-{
-    if out.len() <= 64 {
-        let mut v = [0.0f32; 64];
-        let mut w = [0.0f32; 64];
-        let mut pitch = [0.0f32; 64];
-        return streaming::run(
-            sheet,
-            count,
-            nexts,
-            acts,
-            begins,
-            afters,
-            places,
-            words,
-            blocks,
-            c,
-            out,
-            &mut v,
-            &mut w,
-            &mut pitch,
-            cells,
-            regs,
-            scr,
-        );
-    }
-    let mut v = [0.0f32; 256];
-    let mut w = [0.0f32; 256];
-    let mut pitch = [0.0f32; 256];
-    streaming::run(
-        sheet,
-        count,
-        nexts,
-        acts,
-        begins,
-        afters,
-        places,
-        words,
-        blocks,
-        c,
-        out,
-        &mut v,
-        &mut w,
-        &mut pitch,
-        cells,
-        regs,
-        scr,
-    )
+    rings::rings_ok(sheet, count, acts, places, words, cells, regs)
 }
 
 // Checks 9 and 10, and the samples. The needed scratch is left zeroed.
@@ -159,7 +87,7 @@ pub fn play(
                     controls: c,
                 };
             }
-            let r = run(
+            let r = buffers::run(
                 sheet,
                 count,
                 nexts,

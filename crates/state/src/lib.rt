@@ -1,6 +1,5 @@
-// What the player's calls do to the lent cells and registers: check 9, the cutoff move, and the start of a voice.
+// What the player's calls do to the lent memory but for samples: the cutoff move, the start of a voice, and the scratch zeroed.
 mod begin;
-mod rings;
 
 ghost use mathlib.Core.Path.{_≡_};
 ghost use mathlib.Core.Bool.{cond, _&&_};
@@ -13,33 +12,9 @@ ghost use Rattle.layout.specs.Built.{role, isBuilt};
 ghost use Rattle.layout.specs.Needs.{cellsFrom, registersFrom};
 ghost use Rattle.layout.specs.Tables.{Table, Passed, roleCode, codeRole};
 ghost use Rattle.unit.specs.Own.{silence};
-ghost use Rattle.unit.specs.State.{ringsOk};
 ghost use Rattle.unit.specs.Start.{path};
 ghost use Rattle.machine.specs.Machine.{isFilter, scaled};
 ghost use Rattle.machine.specs.Build.{startedCells, startedRegisters};
-
-// Check 9 of the cells and registers. It stops at the first record that fails it.
-pub fn rings_ok(
-    sheet: &[u8],
-    count: usize,
-    acts: &[u8],
-    places: &[usize],
-    words: &[usize],
-    cells: &[f32],
-    regs: &[u64],
-) -> bool
-    requires { ⌜ Passed (now sheet) count × Table (λ j. roleCode (role (now sheet) j)) count (now acts) × Table (cellsFrom (now sheet)) (count + 1) (now places) × Table (registersFrom (now sheet)) (count + 1) (now words) × (cellsFrom (now sheet) count ≤ length (now cells)) × (registersFrom (now sheet) count ≤ length (now regs)) ⌝ }
-    ensures { λ r. ⌜ r ≡ ringsOk (now (sheet .entry)) (now (cells .entry), now (regs .entry)) ⌝ }
-{
-    let mut i = 0usize;
-    while i < count {
-        if !rings::record_ok(sheet, count, acts, places, words, cells, regs, i) {
-            return false;
-        }
-        i += 1;
-    }
-    true
-}
 
 // A filter of the role act and the kind k whose cells begin at `at` gets the scale x, and NaN for its last frequency, so that the next sample works out the coefficients.
 fn scale(act: u8, k: u8, at: usize, x: f32, cells: &mut [f32])

@@ -6,7 +6,7 @@ use lib.ListN.{length, getD}
 use Rattle.sheet.specs.Record.{countOf}
 use Rattle.machine.specs.Machine.{scaled}
 use Rattle.machine.specs.Laws.{scaled-length}
-use Rattle.state.specs.Parts.{scaled-none, scaled-turn, filter-room}
+use Rattle.rings.specs.Parts.{scaled-none, scaled-turn, filter-room}
 use borrow.Author.Needs.{needs}
 use Rattle.state.proofs.set_cutoff.Statement.{statement}
 use Rattle.state.proofs.set_cutoff.Tie as tie

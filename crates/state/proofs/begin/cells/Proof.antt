@@ -7,7 +7,7 @@ use lib.ListN.{length, drop}
 use Rattle.sheet.specs.Checks.{sum}
 use Rattle.layout.specs.Needs.{cells as needed, cellsFrom}
 use Rattle.machine.specs.Build.{broughtCells, startedCells, brought-cells}
-use Rattle.state.specs.Parts.{part-of, part-length, started-turn, joined-none}
+use Rattle.rings.specs.Parts.{part-of, part-length, started-turn, joined-none}
 use borrow.Author.Needs.{needs}
 use Rattle.state.proofs.begin.cells.Statement.{statement}
 use Rattle.state.proofs.begin.cells.Tie as tie

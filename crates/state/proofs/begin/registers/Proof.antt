@@ -7,7 +7,7 @@ use lib.ListN.{length, drop}
 use Rattle.sheet.specs.Checks.{sum}
 use Rattle.layout.specs.Needs.{registers as needed, registersFrom}
 use Rattle.machine.specs.Build.{broughtRegisters, startedRegisters, brought-registers}
-use Rattle.state.specs.Parts.{part-of, part-length, started-turn, joined-none}
+use Rattle.rings.specs.Parts.{part-of, part-length, started-turn, joined-none}
 use borrow.Author.Needs.{needs}
 use Rattle.state.proofs.begin.registers.Statement.{statement}
 use Rattle.state.proofs.begin.registers.Tie as tie
