@@ -1,3 +1,4 @@
+pub mod Bank
 pub mod Iterate
 pub mod Loop
 pub mod Patch

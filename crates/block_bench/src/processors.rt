@@ -1,4 +1,4 @@
-// The processors of `proc_block` and `line_block`, and those of `bank_block`. buf is lent to those that play in passes.
+// The processors of `proc_block`, `line_block`, `modal_block` and `reverb_block`. buf is lent to those that play in passes.
 ghost use mathlib.Core.Path.{_≡_};
 ghost use Prim.Native.Nat.{_+_, _*_, _^_, _≤_, _<_};
 ghost use lib.ListN.{length};
@@ -6,7 +6,8 @@ ghost use Rattle.block.specs.Iterate.{given, at};
 ghost use Rattle.dsl.specs.Options.{driveShapeOf};
 ghost use Rattle.proc_block.specs.Steps.{gainStep, filterStep, driveStepAt, drivePlainStep, tremoloStep, compressStep};
 ghost use Rattle.line_block.specs.Steps.{delayStep, chorusStep};
-ghost use Rattle.bank_block.specs.Banks.{modalStep, reverbStep, lineFrom, Placed};
+ghost use Rattle.modal_block.specs.Modal.{modalStep};
+ghost use Rattle.reverb_block.specs.Reverb.{reverbStep, lineFrom, Placed};
 ghost use Rattle.block_bench.specs.State.{wordAt, kindOf, filterAt, driveAt};
 
 #[no_mangle]
@@ -190,7 +191,7 @@ pub extern "C" fn block_modal(out: &mut [f32], cells: &mut [f32], mix: f32, n: u
     requires { ⌜ 5 * n ≤ length (now cells) ⌝ }
     ensures { λ v. ⌜ now (out .exit) ≡ given (modalStep (now (out .entry)) mix n) (now (cells .entry)) (length (now (out .entry))) ⌝ }
 {
-    bank_block::modal_block(out, mix, n, cells);
+    modal_block::modal_block(out, mix, n, cells);
 }
 
 // The cells are the ten lines and then the combs' six stores.
@@ -206,5 +207,5 @@ pub extern "C" fn block_reverb(
     requires { ⌜ Placed (now lens) (now regs) × (length (now cells) ≡ lineFrom (now lens) 10 + 6) ⌝ }
     ensures { λ v. ⌜ now (out .exit) ≡ given (reverbStep (now (out .entry)) feedback mix (now (lens .entry))) (now (cells .entry), now (regs .entry)) (length (now (out .entry))) ⌝ }
 {
-    bank_block::reverb_block(out, feedback, mix, lens, cells, regs);
+    reverb_block::reverb_block(out, feedback, mix, lens, cells, regs);
 }

@@ -1,10 +1,10 @@
-// The sources of `source_block`, and Super of `bank_block`.
+// The sources of `source_block`, and Super of `super_block`.
 ghost use mathlib.Core.Path.{_≡_};
 ghost use Prim.Native.Nat.{_+_, _*_, _^_, _≤_, _<_};
 ghost use lib.ListN.{length};
 ghost use Rattle.block.specs.Iterate.{given, at};
 ghost use Rattle.source_block.specs.Steps.{sineStep, squareStep, sawStep, triangleStep, fmStep, whiteStep, pinkStep, brownStep, dustStep, impactStep, envStep};
-ghost use Rattle.bank_block.specs.Banks.{superStep};
+ghost use Rattle.super_block.specs.Super.{superStep};
 ghost use Rattle.dsl.specs.Options.{superWaveOf};
 ghost use Rattle.block_bench.specs.State.{wordAt, triangleAt, fmAt, pinkAt, brownAt, dustAt};
 
@@ -95,7 +95,7 @@ pub extern "C" fn block_super(
     requires { ⌜ (length (now out) ≤ length (now f)) × (length (now out) ≤ length (now pitch)) × (length (now cells) ≡ 2 * n) ⌝ }
     ensures { λ v. ⌜ now (out .exit) ≡ given (superStep (superWaveOf wave) n (now (f .entry)) (now (pitch .entry)) srf) (now (cells .entry)) (length (now (out .entry))) ⌝ }
 {
-    bank_block::super_block(out, f, pitch, dsl::super_wave_of(wave), srf, n, cells);
+    super_block::super_block(out, f, pitch, dsl::super_wave_of(wave), srf, n, cells);
 }
 
 #[no_mangle]

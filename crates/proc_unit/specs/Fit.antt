@@ -18,7 +18,7 @@ use Rattle.layout.specs.Good.{good}
 use Rattle.layout.specs.Needs.{needOf, chainLength}
 use Rattle.layout.specs.Counts.{cellsWith, registersWith, cells-with, registers-with}
 use Rattle.lines.specs.Lines.{reverbLines}
-use Rattle.bank_block.specs.Banks.{lineFrom, Placed}
+use Rattle.reverb_block.specs.Reverb.{lineFrom, Placed}
 use Rattle.block.specs.Iterate.{word}
 use Rattle.unit.specs.Own.{Own}
 use Rattle.unit.specs.Processors.{processorUnit}

@@ -15,7 +15,8 @@ use Rattle.proc.specs.Effects.{tremoloOf, delayOf, nextPlace, chorusRead, choru
 use Rattle.proc_block.specs.Steps.{gainStep, filterStep, driveStepAt, drivePlainStep, tremoloStep, compressStep}
 use Rattle.line_block.specs.Steps.{delayStep, chorusStep}
 use Rattle.lines.specs.Lines.{reverbLines}
-use Rattle.bank_block.specs.Banks.{modalStep, reverbOf, reverbStep}
+use Rattle.modal_block.specs.Modal.{modalStep}
+use Rattle.reverb_block.specs.Reverb.{reverbOf, reverbStep}
 use Rattle.unit.specs.Own.{Own, Ugen}
 use Rattle.unit.specs.Processors.{gainUnit, filterUnit, filterIn, filterCells, delayUnit, chorusUnit, antialiasedUnit, driveIn, driveCells, plainUnit, tremoloUnit, compressUnit, modalUnit, reverbUnit}
 use Rattle.unit.specs.Block.{Ran, steps, moment-position, ran-part, ran-stateless}

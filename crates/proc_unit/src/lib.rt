@@ -14,7 +14,7 @@ ghost use Rattle.control.specs.declared.Controls.{Controls};
 ghost use Rattle.sheet.specs.Record.{optionOf, numberOf};
 ghost use Rattle.lines.specs.Lines.{chorusBase, chorusSwing, reverbLines};
 ghost use Rattle.dsp.specs.Coefficients.{feedbackOf};
-ghost use Rattle.bank_block.specs.Banks.{lineFrom, Placed};
+ghost use Rattle.reverb_block.specs.Reverb.{lineFrom, Placed};
 ghost use Rattle.block.specs.Iterate.{word};
 ghost use Rattle.unit.specs.Processors.{filterIn, filterCells, filterUnit, filterKindOf, filterQ, driveIn, driveCells, driveUnit, delayUnit, reverbUnit, modalUnit, chorusUnit, tremoloUnit, compressUnit, processorUnit};
 ghost use Rattle.unit.specs.Unit.{kindUnit};
@@ -40,7 +40,7 @@ fn reverb_lines(r: &[u8], lens: &[u64], out: &mut [f32], cells: &mut [f32], regs
 {
     let feedback = dsp::freeverb_feedback(sheet::number(r, 0));
     let mix = float::clamp(sheet::number(r, 1), 0.0, 1.0);
-    bank_block::reverb_block(out, feedback, mix, lens, cells, regs);
+    reverb_block::reverb_block(out, feedback, mix, lens, cells, regs);
 }
 
 fn reverb(r: &[u8], sr: u32, out: &mut [f32], cells: &mut [f32], regs: &mut [u64])
@@ -59,7 +59,7 @@ fn modal(r: &[u8], out: &mut [f32], cells: &mut [f32])
 {
     let mix = float::clamp(sheet::number(r, 0), 0.0, 1.0);
     let n = cells.len() / 5;
-    bank_block::modal_block(out, mix, n, cells);
+    modal_block::modal_block(out, mix, n, cells);
 }
 
 fn tremolo(r: &[u8], sr: u32, c: control::Controls, out: &mut [f32], buf: &mut [f32])

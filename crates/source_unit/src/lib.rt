@@ -72,7 +72,7 @@ fn super_voices(out: &mut [f32], v: &[f32], pitch: &[f32], r: &[u8], srf: f32, c
 {
     let wave = dsl::super_wave_of(sheet::option(r));
     let n = layout::voices(sheet::bits(r, 0)) as usize;
-    bank_block::super_block(out, v, pitch, wave, srf, n, cells);
+    super_block::super_block(out, v, pitch, wave, srf, n, cells);
 }
 
 // ---- by the position alone

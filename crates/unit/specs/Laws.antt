@@ -18,6 +18,7 @@ use Rattle.ieee.proofs.Tests.{two-to, is-true, one-32}
 use Rattle.float.specs.Order.{clampOf}
 use Rattle.float.specs.Single.{one, zero as zeroF}
 use Rattle.tree.specs.Block.{tab, length-tab}
+use Rattle.block.specs.Bank.{units}
 use Rattle.block.specs.Iterate.{at, word}
 use Rattle.dsl.specs.declared.SuperWave.{SuperWave}
 use Rattle.dsl.specs.declared.NoiseColor.the-variants.{Brown}
@@ -29,7 +30,9 @@ use Rattle.source.specs.Oscillators.{hertz}
 use Rattle.source.specs.Others.{pinkOf}
 use Rattle.value.specs.Modulators.{randIncrement}
 use Rattle.value.proofs.RandPhase.{phase-kept, increment-bound}
-use Rattle.bank_block.specs.Banks.{units, voiceAt, superOf, modeStep, putMode, modalOf, Wet, combAt, allpassAt, reverbOf}
+use Rattle.super_block.specs.Super.{voiceAt, superOf}
+use Rattle.modal_block.specs.Modal.{modeStep, putMode, modalOf}
+use Rattle.reverb_block.specs.Reverb.{Wet, combAt, allpassAt, reverbOf}
 use Rattle.control.specs.declared.Controls.{Controls}
 use Rattle.sheet.specs.Record.{countOf, rateOf, lengthOf, optionOf, numberOf, recordAt, kind}
 use Rattle.sheet.specs.Kinds.{rowOf, lookup}

@@ -19,7 +19,8 @@ use Rattle.dsp.specs.Coefficients.{feedbackOf}
 use Rattle.proc.specs.declared.Filter.{Filter}
 use Rattle.proc.specs.declared.Drive.{Drive}
 use Rattle.proc.specs.Effects.{gainOf, filterOf, driveStep, drivePlain, tremoloOf, compressOf, delayOf, nextPlace, chorusRead, chorusOf}
-use Rattle.bank_block.specs.Banks.{modalOf, reverbOf}
+use Rattle.modal_block.specs.Modal.{modalOf}
+use Rattle.reverb_block.specs.Reverb.{reverbOf}
 use Rattle.unit.specs.Own.{Ugen, stateless}
 
 abbrev pub gainUnit : Ugen

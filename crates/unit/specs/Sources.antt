@@ -16,7 +16,7 @@ use Rattle.value.specs.Modulators.{releaseStart}
 use Rattle.source.specs.Oscillators.{sineOf, squareOf, sawOf, triangleOf, fmOf}
 use Rattle.source.specs.Others.{impactWidth, impactNorm, impactOf, envOf, whiteOf, pinkOf, brownOf, dustChance, dustDecay, dustOf}
 use Rattle.source.specs.declared.Poles.{Poles}
-use Rattle.bank_block.specs.Banks.{superOf}
+use Rattle.super_block.specs.Super.{superOf}
 use Rattle.unit.specs.Own.{Ugen, stateless, silentUnit}
 
 -- ---- oscillators: a phase, or two numbers

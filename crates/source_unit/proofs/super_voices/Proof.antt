@@ -4,7 +4,7 @@ use mathlib.Core.List.{[], _∷_}
 use Prim.Native.Nat.{min, max}
 use Rattle.block.specs.Iterate.{at}
 use Rattle.dsl.specs.Options.{superWaveOf}
-use Rattle.bank_block.specs.Banks.{superOf, superStep}
+use Rattle.super_block.specs.Super.{superOf, superStep}
 use Rattle.unit.specs.Sources.{superUnit}
 use Rattle.source_unit.specs.Laws.{osc-ran}
 use borrow.Author.Needs.{needs}

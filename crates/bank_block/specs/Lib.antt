@@ -1,5 +1,0 @@
-pub mod Banks
-pub mod Copy
-pub mod Interchange
-pub mod Lines
-pub mod Modes

@@ -1,0 +1,3 @@
+pub mod Interchange
+pub mod Modal
+pub mod Modes

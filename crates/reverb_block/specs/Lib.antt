@@ -1,0 +1,3 @@
+pub mod Copy
+pub mod Lines
+pub mod Reverb
