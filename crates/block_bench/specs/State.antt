@@ -16,7 +16,7 @@ use Rattle.source_block.specs.declared.Brown.{Brown}
 use Rattle.source_block.specs.declared.Dust.{Dust}
 use Rattle.proc.specs.declared.Filter.{Filter}
 use Rattle.proc.specs.declared.Drive.{Drive}
-use Rattle.render.specs.declared.FilterKind.{FilterKind}
+use Rattle.biquad.specs.declared.FilterKind.{FilterKind}
 
 abbrev pub wordAt : List ℕ → ℕ
 wordAt words = getD words 0 0

@@ -19,28 +19,28 @@ pub extern "C" fn block_gain(out: &mut [f32], amount: &[f32])
 }
 
 // In the order of the sheet's kinds; db is the gain of a peak or a shelf.
-fn filter_kind(n: u8, db: f32) -> render::FilterKind
+fn filter_kind(n: u8, db: f32) -> biquad::FilterKind
     ensures { λ r. ⌜ r ≡ kindOf n db ⌝ }
 {
     if n == 0 {
-        return render::FilterKind::Low;
+        return biquad::FilterKind::Low;
     }
     if n == 1 {
-        return render::FilterKind::High;
+        return biquad::FilterKind::High;
     }
     if n == 2 {
-        return render::FilterKind::Band;
+        return biquad::FilterKind::Band;
     }
     if n == 3 {
-        return render::FilterKind::Notch;
+        return biquad::FilterKind::Notch;
     }
     if n == 4 {
-        return render::FilterKind::Peak(db);
+        return biquad::FilterKind::Peak(db);
     }
     if n == 5 {
-        return render::FilterKind::LowShelf(db);
+        return biquad::FilterKind::LowShelf(db);
     }
-    render::FilterKind::HighShelf(db)
+    biquad::FilterKind::HighShelf(db)
 }
 
 fn load_filter(cells: &[f32]) -> proc::Filter

@@ -9,9 +9,10 @@ use Rattle.float.specs.Whole.{wholeOf}
 use Rattle.float.specs.Single.{zero, half, one, two}
 use Rattle.dsl.specs.declared.Shape.the-variants.{Triangle}
 use Rattle.dsl.specs.declared.DriveShape.the-variants.{Hard, Fold}
-use Rattle.render.specs.Osc.{polyBlep, oscOf}
-use Rattle.render.specs.Drive.{driveOf, antiderivativeOf}
-use Rattle.render.specs.Cases as render
+use Rattle.osc.specs.Osc.{polyBlep, oscOf}
+use Rattle.drive.specs.Drive.{driveOf, antiderivativeOf}
+use Rattle.osc.specs.Cases as osc
+use Rattle.drive.specs.Cases as drive
 use Rattle.lines.specs.Lines.{delayLine, chorusLine}
 use Rattle.lines.specs.Cases as lines
 use Rattle.value.specs.Modulators.{lfoPhase}
@@ -23,7 +24,7 @@ pub triangle :
     × (oscOf Triangle (ofBits binary32 0x3e80_0000) ≡ fin false 0 (pos 0))
     × (oscOf Triangle half ≡ fin false 1 (pos 0))
     × (oscOf Triangle (ofBits binary32 0x3f40_0000) ≡ fin false 0 (pos 0))
-triangle = (render.triangle-at-0, render.triangle-at-quarter, render.triangle-at-half, render.triangle-at-three-quarters)
+triangle = (osc.triangle-at-0, osc.triangle-at-quarter, osc.triangle-at-half, osc.triangle-at-three-quarters)
 
 -- poly_blep with a step of 0.25 at 0, 0.5, 0.75: -1, 0, 0; with a step of 0: 0
 pub blep :
@@ -31,22 +32,22 @@ pub blep :
     × (polyBlep half (ofBits binary32 0x3e80_0000) ≡ fin false 0 (pos 0))
     × (polyBlep (ofBits binary32 0x3f40_0000) (ofBits binary32 0x3e80_0000) ≡ fin false 0 (pos 0))
     × ((t : Float) → polyBlep t zero ≡ fin false 0 (pos 0))
-blep = (render.blep-at-0, render.blep-at-half, render.blep-at-three-quarters, render.blep-without-step)
+blep = (osc.blep-at-0, osc.blep-at-half, osc.blep-at-three-quarters, osc.blep-without-step)
 
 -- the fold of 2.5: -0.5; of an infinity: 0; of 2049: 1
 pub fold :
     (driveOf Fold (ofBits binary32 0x4020_0000) ≡ fin true 1 (negsuc 0))
     × (driveOf Fold (inf false) ≡ fin false 0 (pos 0))
     × (driveOf Fold (ofBits binary32 0x4500_1000) ≡ fin false 1 (pos 0))
-fold = (render.fold-of-2-5, render.fold-of-infinity, render.fold-of-2049)
+fold = (drive.fold-of-2-5, drive.fold-of-infinity, drive.fold-of-2049)
 
 -- the fold of 2053: -1, since the 1,025th fold leaves -3, which is clamped
 pub last-fold : driveOf Fold (ofBits binary32 0x4500_5000) ≡ fin true 1 (pos 0)
-last-fold = render.fold-of-2053
+last-fold = drive.fold-of-2053
 
 -- the hard curve's antiderivative of 0.5 and 2: 0.125 and 1.5
 pub antiderivative : (antiderivativeOf Hard half ≡ fin false 1 (negsuc 2)) × (antiderivativeOf Hard two ≡ fin false 3 (negsuc 0))
-antiderivative = (render.hard-antiderivative-of-half, render.hard-antiderivative-of-2)
+antiderivative = (drive.hard-antiderivative-of-half, drive.hard-antiderivative-of-2)
 
 -- from pitch 1, target 2, glide 0.5: 1.5, 1.75, 1.875
 pub glide : (glided one two half ≡ fin false 3 (negsuc 0)) × (glided (glided one two half) two half ≡ fin false 7 (negsuc 1)) × (glided (glided (glided one two half) two half) two half ≡ fin false 15 (negsuc 2))

@@ -5,19 +5,19 @@ use crate::words::of_single;
 use crate::words::single;
 
 // The kinds in the order of their declaration.
-fn kind_of(n: u64, gain: f32) -> render::FilterKind {
+fn kind_of(n: u64, gain: f32) -> biquad::FilterKind {
     match n {
-        0 => render::FilterKind::Low,
-        1 => render::FilterKind::High,
-        2 => render::FilterKind::Band,
-        3 => render::FilterKind::Notch,
-        4 => render::FilterKind::Peak(gain),
-        5 => render::FilterKind::LowShelf(gain),
-        _ => render::FilterKind::HighShelf(gain),
+        0 => biquad::FilterKind::Low,
+        1 => biquad::FilterKind::High,
+        2 => biquad::FilterKind::Band,
+        3 => biquad::FilterKind::Notch,
+        4 => biquad::FilterKind::Peak(gain),
+        5 => biquad::FilterKind::LowShelf(gain),
+        _ => biquad::FilterKind::HighShelf(gain),
     }
 }
 
-fn part(which: u8, c: render::Coefficients) -> f32 {
+fn part(which: u8, c: biquad::Coefficients) -> f32 {
     match which {
         0 => c.b0,
         1 => c.b1,
@@ -33,7 +33,7 @@ pub fn coefficient(which: u8, x: [u64; 20]) -> u64
     let kind = kind_of(x[0], single(x[1]));
     of_single(part(
         which,
-        render::biquad_coeffs(kind, single(x[2]), single(x[3]), low(x[4])),
+        biquad::biquad_coeffs(kind, single(x[2]), single(x[3]), low(x[4])),
     ))
 }
 

@@ -8,10 +8,10 @@ fn float_of(place: u8, x: [u64; 20]) -> f32 {
     let a = single(x[0]);
     let b = single(x[1]);
     match place {
-        0 => render::poly_blep(a, b),
-        1 => render::osc(dsl::shape_of(choice(x[0])), b),
-        3 => render::drive_curve(a, dsl::drive_shape_of(choice(x[1]))),
-        _ => render::drive_antideriv(a, dsl::drive_shape_of(choice(x[1]))),
+        0 => osc::poly_blep(a, b),
+        1 => osc::osc(dsl::shape_of(choice(x[0])), b),
+        3 => drive::drive_curve(a, dsl::drive_shape_of(choice(x[1]))),
+        _ => drive::drive_antideriv(a, dsl::drive_shape_of(choice(x[1]))),
     }
 }
 

@@ -8,9 +8,9 @@ use Rattle.float.specs.Order.{absOf, maxOf}
 use Rattle.float.specs.Euclid.{remEuclidOf}
 use Rattle.float.specs.Single.{_⊕_, _⊖_, _⊗_, _⊘_, zero, half, one, tau}
 use Rattle.dsp.specs.Math.{sine, power, logarithm10}
-use Rattle.render.specs.declared.FilterKind.{FilterKind}
-use Rattle.render.specs.Biquad.{biquadOf}
-use Rattle.render.specs.Drive.{driveOf, antiderivativeOf}
+use Rattle.biquad.specs.declared.FilterKind.{FilterKind}
+use Rattle.biquad.specs.Biquad.{biquadOf}
+use Rattle.drive.specs.Drive.{driveOf, antiderivativeOf}
 use Rattle.dsl.specs.declared.DriveShape.{DriveShape}
 use Rattle.proc.specs.declared.Filter.{Filter}
 use Rattle.proc.specs.declared.FilterOut.{FilterOut}

@@ -2,7 +2,7 @@
 ghost use mathlib.Core.Path.{_≡_};
 ghost use Prim.Native.Nat.{_%_, _<_};
 ghost use Rattle.proc.specs.Effects.{gainOf, tuned, biquadStep, filterOf, delayOf, nextPlace, combOf, allpassOf, reverbMix, modeOf, driven, driveBy, driveStep, drivePlain, lfoAngle, lfoAt, tremoloBy, tremoloOf, chorusPlace, chorusRead, chorusOf, compressLevel, compressGain, compressOf, averageOf, blocked};
-ghost use Rattle.render.specs.Drive.{driveOf};
+ghost use Rattle.drive.specs.Drive.{driveOf};
 
 // A filter's eleven cells, in the sheet's order.
 pub struct Filter {
@@ -79,11 +79,11 @@ pub fn gain(amount: f32, x: f32) -> f32
 }
 
 // The coefficients are worked out anew exactly where the cutoff moved; a NaN always counts as moved.
-pub fn tune(kind: render::FilterKind, q: f32, sr: u32, f: f32, s: Filter) -> Filter
+pub fn tune(kind: biquad::FilterKind, q: f32, sr: u32, f: f32, s: Filter) -> Filter
     ensures { λ r. ⌜ r ≡ tuned kind q sr f s ⌝ }
 {
     if f != s.prev_f {
-        let k = render::biquad_coeffs(kind, f, q, sr);
+        let k = biquad::biquad_coeffs(kind, f, q, sr);
         return Filter {
             scale: s.scale,
             prev_f: f,
@@ -125,7 +125,7 @@ pub fn biquad(s: Filter, x: f32) -> FilterOut
 }
 
 pub fn filter_step(
-    kind: render::FilterKind,
+    kind: biquad::FilterKind,
     q: f32,
     sr: u32,
     cutoff: f32,
@@ -206,7 +206,7 @@ fn averaged(shape: dsl::DriveShape, xn: f32, f: f32, x_prev: f32, f_prev: f32) -
     if float::abs(d) > 1e-5 {
         return (f - f_prev) / d;
     }
-    render::drive_curve(0.5 * (xn + x_prev), shape)
+    drive::drive_curve(0.5 * (xn + x_prev), shape)
 }
 
 fn dc_blocked(y: f32, xn: f32, f: f32, s: Drive) -> DriveOut
@@ -248,7 +248,7 @@ fn curve_after(shape: dsl::DriveShape, x: f32, h: Curved) -> Curved
     }
     Curved {
         x,
-        y: render::drive_curve(x, shape),
+        y: drive::drive_curve(x, shape),
     }
 }
 
@@ -303,13 +303,13 @@ pub fn drive_step(shape: dsl::DriveShape, amount: f32, s: Drive, x: f32) -> Driv
     ensures { λ r. ⌜ r ≡ driveStep shape amount s x ⌝ }
 {
     let xn = amplified(amount, x);
-    drive_by(shape, xn, render::drive_antideriv(xn, shape), s)
+    drive_by(shape, xn, drive::drive_antideriv(xn, shape), s)
 }
 
 pub fn drive_plain(shape: dsl::DriveShape, amount: f32, x: f32) -> f32
     ensures { λ r. ⌜ r ≡ drivePlain shape amount x ⌝ }
 {
-    render::drive_curve(amplified(amount, x), shape)
+    drive::drive_curve(amplified(amount, x), shape)
 }
 
 // The angle of the LFO at a position; its sine is `dsp::sin`, by a block in a loop of its own.

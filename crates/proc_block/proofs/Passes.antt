@@ -10,7 +10,7 @@ use Rattle.block.specs.Iterate.{at, after, given, sampleAt, given-length, given
 use Rattle.dsl.specs.declared.DriveShape.the-variants.{Tanh}
 use Rattle.dsp.specs.Map.{map-tab}
 use Rattle.dsp.specs.Math.{sine}
-use Rattle.render.specs.Drive.{lnCosh, antiderivativeOf}
+use Rattle.drive.specs.Drive.{lnCosh, antiderivativeOf}
 use Rattle.proc.specs.declared.Drive.{Drive}
 use Rattle.proc.specs.declared.DriveOut.{DriveOut}
 use Rattle.proc.specs.Effects.{driven, driveBy, driveStep, tremoloBy, tremoloOf, compressGain, compressOf}

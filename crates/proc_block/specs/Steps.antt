@@ -4,8 +4,8 @@ use Prim.Native.Nat.{ℕ, _+_}
 use lib.Ieee.{Float}
 use Rattle.block.specs.Iterate.{at}
 use Rattle.dsl.specs.declared.DriveShape.{DriveShape}
-use Rattle.render.specs.declared.FilterKind.{FilterKind}
-use Rattle.render.specs.Drive.{decayOf, lnCosh}
+use Rattle.biquad.specs.declared.FilterKind.{FilterKind}
+use Rattle.drive.specs.Drive.{decayOf, lnCosh}
 use Rattle.proc.specs.declared.Filter.{Filter}
 use Rattle.proc.specs.declared.Drive.{Drive}
 use Rattle.proc.specs.Effects.{gainOf, filterOf, driven, driveBy, driveStep, drivePlain, lfoAngle, lfoAt, tremoloBy, tremoloOf, compressLevel, compressGain, compressOf}

@@ -4,7 +4,7 @@ ghost use mathlib.Core.Path.{_≡_};
 ghost use Prim.Native.Nat.{_+_, _^_, _≤_, _<_};
 ghost use lib.ListN.{length};
 ghost use Rattle.dsl.specs.declared.DriveShape.the-variants.{Tanh};
-ghost use Rattle.render.specs.Drive.{decayOf, lnCosh};
+ghost use Rattle.drive.specs.Drive.{decayOf, lnCosh};
 ghost use Rattle.block.specs.Iterate.{given, after};
 ghost use Rattle.proc_block.specs.Steps.{gainStep, filterStep, drivenStep, decayStep, lnCoshStep, driveByStep, driveStepAt, drivePlainStep, lfoStep, angleStep, tremoloStep, tremoloByStep, compressStep, levelStep, levelGainStep};
 
@@ -23,7 +23,7 @@ pub fn gain_block(out: &mut [f32], amount: &[f32])
 pub fn filter_block(
     out: &mut [f32],
     cutoff: &[f32],
-    kind: render::FilterKind,
+    kind: biquad::FilterKind,
     q: f32,
     sr: u32,
     s: proc::Filter,
@@ -64,7 +64,7 @@ fn decay_after(y: f32, x: f32, d: f32) -> f32
     if float::same(y, x) {
         d
     } else {
-        render::decay(y)
+        drive::decay(y)
     }
 }
 
@@ -77,7 +77,7 @@ fn ln_cosh_after(y: f32, e: f32, x: f32, d: f32, f: f32) -> f32
             return f;
         }
     }
-    render::ln_cosh(y, e)
+    drive::ln_cosh(y, e)
 }
 
 fn drive_decays(fs: &mut [f32], xs: &[f32])
@@ -88,7 +88,7 @@ fn drive_decays(fs: &mut [f32], xs: &[f32])
         return;
     }
     let mut x = xs[0];
-    let mut d = render::decay(x);
+    let mut d = drive::decay(x);
     let mut k: usize = 0;
     while k < fs.len() {
         d = decay_after(xs[k], x, d);
@@ -107,7 +107,7 @@ fn drive_ln_coshes(fs: &mut [f32], xs: &[f32])
     }
     let mut x = xs[0];
     let mut d = fs[0];
-    let mut f = render::ln_cosh(x, d);
+    let mut f = drive::ln_cosh(x, d);
     let mut k: usize = 0;
     while k < fs.len() {
         f = ln_cosh_after(xs[k], fs[k], x, d, f);

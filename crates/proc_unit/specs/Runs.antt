@@ -8,7 +8,7 @@ use Rattle.tree.specs.Block.{tab}
 use Rattle.block.specs.Iterate.{at, given, after, part-while, word}
 use Rattle.control.specs.declared.Controls.{Controls}
 use Rattle.dsl.specs.declared.DriveShape.{DriveShape}
-use Rattle.render.specs.declared.FilterKind.{FilterKind}
+use Rattle.biquad.specs.declared.FilterKind.{FilterKind}
 use Rattle.proc.specs.declared.Filter.{Filter}
 use Rattle.proc.specs.declared.Drive.{Drive}
 use Rattle.proc.specs.Effects.{tremoloOf, delayOf, nextPlace, chorusRead, chorusOf}

@@ -5,7 +5,7 @@ use Rattle.float.specs.Whole.{fractOf, wrapOf}
 use Rattle.float.specs.Order.{maxOf, clampOf}
 use Rattle.float.specs.Single.{_⊕_, _⊖_, _⊗_, _⊘_, zero, half, one, two, four, tau}
 use Rattle.dsp.specs.Math.{sine}
-use Rattle.render.specs.Osc.{polyBlep, oscOf}
+use Rattle.osc.specs.Osc.{polyBlep, oscOf}
 use Rattle.dsl.specs.declared.Shape.the-variants.{Sine}
 use Rattle.dsl.specs.declared.SuperWave.{SuperWave}
 use Rattle.dsl.specs.declared.SuperWave.the-variants as wave

@@ -70,7 +70,7 @@ pub fn phase_next(f: f32, pitch: f32, srf: f32, phase: f32) -> f32
 pub fn sine(f: f32, pitch: f32, srf: f32, phase: f32) -> Phased
     ensures { λ r. ⌜ r ≡ sineOf f pitch srf phase ⌝ }
 {
-    let out = render::osc(dsl::Shape::Sine, phase);
+    let out = osc::osc(dsl::Shape::Sine, phase);
     let next = phase_next(f, pitch, srf, phase);
     Phased { out, phase: next }
 }
@@ -85,8 +85,8 @@ fn level_at(phase: f32, duty: f32) -> f32
 fn pulse_at(phase: f32, duty: f32, dt: f32) -> f32
     ensures { λ r. ⌜ r ≡ pulse phase duty dt ⌝ }
 {
-    level_at(phase, duty) + render::poly_blep(phase, dt)
-        - render::poly_blep(float::fract(phase - duty + 1.0), dt)
+    level_at(phase, duty) + osc::poly_blep(phase, dt)
+        - osc::poly_blep(float::fract(phase - duty + 1.0), dt)
 }
 
 pub fn square(f: f32, duty: f32, pitch: f32, srf: f32, phase: f32) -> Phased
@@ -101,7 +101,7 @@ pub fn square(f: f32, duty: f32, pitch: f32, srf: f32, phase: f32) -> Phased
 fn saw_at(phase: f32, dt: f32) -> f32
     ensures { λ r. ⌜ r ≡ sawAt phase dt ⌝ }
 {
-    (2.0 * phase - 1.0) - render::poly_blep(phase, dt)
+    (2.0 * phase - 1.0) - osc::poly_blep(phase, dt)
 }
 
 pub fn saw(f: f32, pitch: f32, srf: f32, phase: f32) -> Phased
@@ -116,8 +116,7 @@ pub fn saw(f: f32, pitch: f32, srf: f32, phase: f32) -> Phased
 fn half_pulse(phase: f32, dt: f32) -> f32
     ensures { λ r. ⌜ r ≡ halfPulse phase dt ⌝ }
 {
-    level_at(phase, 0.5) + render::poly_blep(phase, dt)
-        - render::poly_blep(float::fract(phase + 0.5), dt)
+    level_at(phase, 0.5) + osc::poly_blep(phase, dt) - osc::poly_blep(float::fract(phase + 0.5), dt)
 }
 
 pub fn triangle(f: f32, pitch: f32, srf: f32, phase: f32, tri: f32) -> TriangleOut

@@ -8,7 +8,7 @@ use Rattle.tree.specs.Block.{tab-eq}
 use Rattle.float.specs.Single.{_⊕_, _⊗_, tau}
 use Rattle.dsp.specs.Math.{sine}
 use Rattle.dsp.specs.Map.{map-tab, mapped-length, mapped-at}
-use Rattle.render.specs.Osc.{oscOf}
+use Rattle.osc.specs.Osc.{oscOf}
 use Rattle.dsp.specs.Envelope.{adsrOf}
 use Rattle.block.specs.Iterate.{at, after, given, sampleAt, given-length, given-at}
 use Rattle.source.specs.Oscillators.{sineOf, fmOf}

@@ -95,7 +95,7 @@ pub fn drive(option: u8, own: &mut [f32])
     ensures { λ r. ⌜ now (own .exit) ≡ driveStart option ⌝ }
 {
     block::fill_block(own, 0.0);
-    own[1] = render::drive_antideriv(0.0, dsl::drive_shape_of(option));
+    own[1] = drive::drive_antideriv(0.0, dsl::drive_shape_of(option));
 }
 
 // The follower's coefficients, and the makeup from decibels.

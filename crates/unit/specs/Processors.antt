@@ -11,8 +11,8 @@ use Rattle.float.specs.Single.{zero, one}
 use Rattle.block.specs.Iterate.{at, word}
 use Rattle.dsl.specs.declared.DriveShape.{DriveShape}
 use Rattle.dsl.specs.Options.{driveShapeOf}
-use Rattle.render.specs.declared.FilterKind.{FilterKind}
-use Rattle.render.specs.declared.FilterKind.the-variants.{Low, High, Band, Notch, Peak, LowShelf, HighShelf}
+use Rattle.biquad.specs.declared.FilterKind.{FilterKind}
+use Rattle.biquad.specs.declared.FilterKind.the-variants.{Low, High, Band, Notch, Peak, LowShelf, HighShelf}
 use Rattle.sheet.specs.Record.{optionOf, numberOf}
 use Rattle.lines.specs.Lines.{chorusBase, chorusSwing, reverbLines}
 use Rattle.dsp.specs.Coefficients.{feedbackOf}

@@ -13,7 +13,7 @@ use Rattle.dsp.specs.Math.{power}
 use Rattle.dsp.specs.Random.{stepped, rangeOf, pathOf as childPath, seedOf, randSeedOf}
 use Rattle.dsp.specs.Coefficients.{followerOf, modalOf}
 use Rattle.dsp.specs.declared.Resonator.{Resonator}
-use Rattle.render.specs.Drive.{antiderivativeOf}
+use Rattle.drive.specs.Drive.{antiderivativeOf}
 use Rattle.sheet.specs.Record.{rateOf, pathOf, optionOf, bitsOf, numberOf, recordAt, kind, first, seedOf as randSeed}
 use Rattle.sheet.specs.Tree.{records, spine}
 use Rattle.layout.specs.Built.{linker, owner}

@@ -5,18 +5,18 @@ ghost use lib.ListN.{length};
 ghost use Rattle.unit.specs.Processors.{filterKindOf, filterQ};
 
 // The filter of a record by its kind, 22 to 28, with the gain that it has.
-pub fn filter_kind(kind: u8, r: &[u8]) -> render::FilterKind
+pub fn filter_kind(kind: u8, r: &[u8]) -> biquad::FilterKind
     requires { ⌜ 40 ≤ length (now r) ⌝ }
     ensures { λ x. ⌜ x ≡ filterKindOf kind (now (r .entry)) ⌝ }
 {
     match kind {
-        22 => render::FilterKind::Low,
-        23 => render::FilterKind::High,
-        24 => render::FilterKind::Band,
-        25 => render::FilterKind::Notch,
-        26 => render::FilterKind::Peak(sheet::number(r, 1)),
-        27 => render::FilterKind::LowShelf(sheet::number(r, 0)),
-        _ => render::FilterKind::HighShelf(sheet::number(r, 0)),
+        22 => biquad::FilterKind::Low,
+        23 => biquad::FilterKind::High,
+        24 => biquad::FilterKind::Band,
+        25 => biquad::FilterKind::Notch,
+        26 => biquad::FilterKind::Peak(sheet::number(r, 1)),
+        27 => biquad::FilterKind::LowShelf(sheet::number(r, 0)),
+        _ => biquad::FilterKind::HighShelf(sheet::number(r, 0)),
     }
 }
 

@@ -12,7 +12,7 @@ use Rattle.float.specs.Single.{_⊕_, _⊖_, _⊗_, _⊘_, zero as zeroF, one, 
 use Rattle.dsp.specs.Random.{stepped, rangeOf}
 use Rattle.dsp.specs.Math.{power}
 use Rattle.dsp.specs.Envelope.{adsrOf}
-use Rattle.render.specs.Osc.{oscOf}
+use Rattle.osc.specs.Osc.{oscOf}
 use Rattle.dsl.specs.declared.Shape.{Shape}
 use Rattle.dsl.specs.declared.Curve.{Curve}
 use Rattle.dsl.specs.declared.Curve.the-variants.{Lin, Exp}

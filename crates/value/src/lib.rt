@@ -122,7 +122,7 @@ pub fn lfo_phase(rate: f32, srf: f32, t: u64) -> f32
 pub fn lfo(shape: dsl::Shape, rate: f32, depth: f32, center: f32, srf: f32, t: u64) -> f32
     ensures { λ r. ⌜ r ≡ lfoOf shape rate depth center srf t ⌝ }
 {
-    center + depth * render::osc(shape, lfo_phase(rate, srf, t))
+    center + depth * osc::osc(shape, lfo_phase(rate, srf, t))
 }
 
 // Which of n steps sounds.

@@ -9,7 +9,7 @@ use Rattle.float.specs.Single.{_⊕_, _⊗_}
 use Rattle.dsp.specs.Math.{sine}
 use Rattle.dsp.specs.Map.{mapped-length, mapped-at}
 use Rattle.dsl.specs.declared.Shape.the-variants.{Sine}
-use Rattle.render.specs.Osc.{oscOf}
+use Rattle.osc.specs.Osc.{oscOf}
 use Rattle.block.specs.Iterate.{given, sampleAt}
 use Rattle.value.specs.Modulators.{lfoOf}
 use Rattle.value_block.specs.Steps.{lfoStep, lfoArgumentStep, lfoLevelStep}

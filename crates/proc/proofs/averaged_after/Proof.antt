@@ -1,6 +1,6 @@
 -- `proc::averaged_after` meets its contract. Assumes nothing.
 use mathlib.Core.Path.{sym, ap, _∙_}
-use Rattle.render.specs.Drive.{driveOf}
+use Rattle.drive.specs.Drive.{driveOf}
 use Rattle.proc.specs.Effects.{averageOf}
 use borrow.Author.Needs.{needs}
 use Rattle.proc.proofs.averaged_after.Statement.{statement}

@@ -1,6 +1,6 @@
 -- `proc::curve_after` meets its contract. Assumes nothing.
 use mathlib.Core.Path.{refl, sym, ap, _∙_}
-use Rattle.render.specs.Drive.{driveOf}
+use Rattle.drive.specs.Drive.{driveOf}
 use borrow.Author.Needs.{needs}
 use Rattle.proc.proofs.curve_after.Statement.{statement}
 use Rattle.proc.proofs.curve_after.Tie as tie

@@ -1,6 +1,6 @@
 -- `proc_block::decay_after` meets its contract. Assumes nothing.
 use mathlib.Core.Path.{sym, ap, _∙_}
-use Rattle.render.specs.Drive.{decayOf}
+use Rattle.drive.specs.Drive.{decayOf}
 use borrow.Author.Needs.{needs}
 use Rattle.proc_block.proofs.decay_after.Statement.{statement}
 use Rattle.proc_block.proofs.decay_after.Tie as tie

@@ -8,7 +8,7 @@ use lib.Ieee.{Float, nan}
 use Rattle.block.specs.Loop.{Going, going-start, going-turn, going-end}
 use Rattle.dsl.specs.declared.DriveShape.the-variants.{Tanh}
 use Rattle.dsp.specs.Math.{tangent-zero}
-use Rattle.render.specs.Drive.{driveOf}
+use Rattle.drive.specs.Drive.{driveOf}
 use Rattle.proc.specs.declared.DriveOut.{DriveOut}
 use Rattle.proc.specs.Effects.{driveBy}
 use Rattle.proc_block.specs.Steps.{driveByStep}

@@ -5,7 +5,7 @@ use native.Mathlib.Omega.{arith}
 use lib.ListN.{length}
 use lib.Ieee.{nan}
 use Rattle.block.specs.Loop.{Going, going-start, going-turn, going-end}
-use Rattle.render.specs.Drive.{decayOf}
+use Rattle.drive.specs.Drive.{decayOf}
 use Rattle.proc_block.specs.Steps.{decayStep}
 use borrow.Author.Needs.{needs}
 use Rattle.proc_block.proofs.drive_decays.Statement.{statement}

@@ -6,7 +6,7 @@ use native.Mathlib.Omega.{arith}
 use lib.ListN.{length, getD}
 use lib.Ieee.{Float, nan}
 use Rattle.block.specs.Loop.{Going, going-start, going-turn, going-end}
-use Rattle.render.specs.Drive.{lnCosh}
+use Rattle.drive.specs.Drive.{lnCosh}
 use Rattle.proc_block.specs.Steps.{lnCoshStep}
 use borrow.Author.Needs.{needs}
 use Rattle.proc_block.proofs.drive_ln_coshes.Statement.{statement}

@@ -1,0 +1,2 @@
+pub mod Osc
+pub mod Cases

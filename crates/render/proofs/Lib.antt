@@ -1,2 +1,0 @@
-pub mod Folds
-pub mod Hoisted

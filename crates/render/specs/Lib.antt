@@ -1,4 +1,0 @@
-pub mod Osc
-pub mod Biquad
-pub mod Drive
-pub mod Cases
