@@ -13,7 +13,7 @@ use lib.Ieee.Fits.{mul-fits, nearest-le}
 use lib.Ieee.Bits.{toBits-ofBits, nanBits-is}
 use lib.Ieee.Nearest.{closest}
 use lib.Ieee.Back.{positive-back, negative-back}
-use lib.Ieee.Positive.{num, den, den-pos, positive, between, above-of-le, le-trans-positive, mul-mono, own-value, value-pos, values-of-le}
+use lib.Ieee.Positive.{num, den, den-pos, positive, between, mul-mono, own-value, value-pos, values-of-le}
 use borrow.Author.Tests.{le-ltb}
 use Rattle.ieee.proofs.Tests.{null, two-to, a-half, two-52, is-false}
 use Rattle.ieee.proofs.Value.{lt-values, two-to-value}
@@ -24,10 +24,9 @@ use Rattle.float.specs.Whole.{half, wholeOf, roundOf}
 use Rattle.float.proofs.Laws.{above, half-one}
 use Rattle.float.proofs.Phase.{lt-two-to}
 use Rattle.cast.proofs.Normal.{neg-neg}
-use Rattle.double.specs.Double.{two}
 use Rattle.exp.specs.Exp.{invLn2, powerOfTwo, expMax, expMin}
 use Rattle.exp.proofs.Power.{Written, normal}
-use Rattle.double.proofs.Tests.{subℕ-ge, le-of-not-below, le-of-not-above}
+use Rattle.double.proofs.Tests.{subℕ-ge}
 
 -- s = y + t and k = s - t, where t is 2 ^ 52
 pub record Sum (t y : Float) : Type 0 where

@@ -1,4 +1,4 @@
-// The functions of `det`.
+// The functions of det.rs.
 ghost use mathlib.Core.Path.{_≡_};
 ghost use Rattle.cast.specs.Narrow.{narrowOf};
 ghost use Rattle.trig.specs.Trig.{sinPoly, cosPoly, reduce2pi, sinOf, cosOf};
