@@ -1,8 +1,8 @@
--- `proc_unit::delay` meets its contract. Assumes nothing.
-use Rattle.proc_unit.specs.Runs.{delay-ran}
+-- `line_unit::delay` meets its contract. Assumes nothing.
+use Rattle.line_unit.specs.Runs.{delay-ran}
 use borrow.Author.Needs.{needs}
-use Rattle.proc_unit.proofs.delay.Statement.{statement}
-use Rattle.proc_unit.proofs.delay.Tie as tie
+use Rattle.line_unit.proofs.delay.Statement.{statement}
+use Rattle.line_unit.proofs.delay.Tie as tie
 
 returns : tie.Need-returns
 returns c =

@@ -1,12 +1,12 @@
--- `proc_unit::store_filter` meets its contract. Assumes nothing.
+-- `filter_unit::store_filter` meets its contract. Assumes nothing.
 use native.Mathlib.Omega.{arith}
 use lib.ListN.{take}
 use lib.Seq.{length-sets, lt-length-sets}
 use Rattle.unit.specs.Processors.{filterCells}
 use Rattle.tree.specs.Lists.{stored}
 use borrow.Author.Needs.{needs}
-use Rattle.proc_unit.proofs.store_filter.Statement.{statement}
-use Rattle.proc_unit.proofs.store_filter.Tie as tie
+use Rattle.filter_unit.proofs.store_filter.Statement.{statement}
+use Rattle.filter_unit.proofs.store_filter.Tie as tie
 
 slice-write-cells-5 : tie.Need-slice-write-cells-5
 slice-write-cells-5 c = lt-length-sets (c .args .cells .now) 0 (take 4 (filterCells (c .args .s))) {k = 4} (omega arith)

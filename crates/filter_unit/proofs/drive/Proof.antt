@@ -1,11 +1,11 @@
--- `proc_unit::drive` meets its contract. Assumes nothing.
+-- `filter_unit::drive` meets its contract. Assumes nothing.
 use mathlib.Core.Path.{ap, _∙_}
 use borrow.Author.Tests.{lt-ltb, le-ltb}
 use Rattle.unit.specs.Processors.{driveCells}
-use Rattle.proc_unit.specs.Runs.{antialiased-ran, plain-ran}
+use Rattle.filter_unit.specs.Runs.{antialiased-ran, plain-ran}
 use borrow.Author.Needs.{needs}
-use Rattle.proc_unit.proofs.drive.Statement.{statement}
-use Rattle.proc_unit.proofs.drive.Tie as tie
+use Rattle.filter_unit.proofs.drive.Statement.{statement}
+use Rattle.filter_unit.proofs.drive.Tie as tie
 
 returns : tie.Need-returns
 returns c =

@@ -1,8 +1,8 @@
--- `proc_unit::compress` meets its contract. Assumes nothing.
-use Rattle.proc_unit.specs.Runs.{compress-ran}
+-- `filter_unit::compress` meets its contract. Assumes nothing.
+use Rattle.filter_unit.specs.Runs.{compress-ran}
 use borrow.Author.Needs.{needs}
-use Rattle.proc_unit.proofs.compress.Statement.{statement}
-use Rattle.proc_unit.proofs.compress.Tie as tie
+use Rattle.filter_unit.proofs.compress.Statement.{statement}
+use Rattle.filter_unit.proofs.compress.Tie as tie
 
 returns : tie.Need-returns
 returns c =

@@ -1,9 +1,9 @@
--- `proc_unit::store_drive` meets its contract. Assumes nothing.
+-- `filter_unit::store_drive` meets its contract. Assumes nothing.
 use Rattle.unit.specs.Processors.{driveCells}
 use Rattle.tree.specs.Lists.{stored}
 use borrow.Author.Needs.{needs}
-use Rattle.proc_unit.proofs.store_drive.Statement.{statement}
-use Rattle.proc_unit.proofs.store_drive.Tie as tie
+use Rattle.filter_unit.proofs.store_drive.Statement.{statement}
+use Rattle.filter_unit.proofs.store_drive.Tie as tie
 
 returns : tie.Need-returns
 returns c = stored (driveCells (c .args .s)) (c .args .cells .now) (c .pre)

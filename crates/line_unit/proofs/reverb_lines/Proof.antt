@@ -1,8 +1,8 @@
--- `proc_unit::reverb_lines` meets its contract. Assumes nothing.
-use Rattle.proc_unit.specs.Runs.{reverb-ran}
+-- `line_unit::reverb_lines` meets its contract. Assumes nothing.
+use Rattle.line_unit.specs.Runs.{reverb-ran}
 use borrow.Author.Needs.{needs}
-use Rattle.proc_unit.proofs.reverb_lines.Statement.{statement}
-use Rattle.proc_unit.proofs.reverb_lines.Tie as tie
+use Rattle.line_unit.proofs.reverb_lines.Statement.{statement}
+use Rattle.line_unit.proofs.reverb_lines.Tie as tie
 
 returns : tie.Need-returns
 returns c =

@@ -1,7 +1,7 @@
--- `proc_unit::reverb` meets its contract. Assumes nothing.
+-- `line_unit::reverb` meets its contract. Assumes nothing.
 use borrow.Author.Needs.{needs}
-use Rattle.proc_unit.proofs.reverb.Statement.{statement}
-use Rattle.proc_unit.proofs.reverb.Tie as tie
+use Rattle.line_unit.proofs.reverb.Statement.{statement}
+use Rattle.line_unit.proofs.reverb.Tie as tie
 
 reverb-lines-requires : tie.Need-reverb-lines-requires
 reverb-lines-requires c κs =

@@ -1,10 +1,10 @@
--- `proc_unit::filter` meets its contract. Assumes nothing.
+-- `filter_unit::filter` meets its contract. Assumes nothing.
 use mathlib.Core.Path.{ap, _∙_}
 use Rattle.unit.specs.Processors.{filterCells}
-use Rattle.proc_unit.specs.Runs.{filter-ran}
+use Rattle.filter_unit.specs.Runs.{filter-ran}
 use borrow.Author.Needs.{needs}
-use Rattle.proc_unit.proofs.filter.Statement.{statement}
-use Rattle.proc_unit.proofs.filter.Tie as tie
+use Rattle.filter_unit.proofs.filter.Statement.{statement}
+use Rattle.filter_unit.proofs.filter.Tie as tie
 
 returns : tie.Need-returns
 returns c =

@@ -1,8 +1,8 @@
--- `proc_unit::chorus` meets its contract. Assumes nothing.
-use Rattle.proc_unit.specs.Runs.{chorus-ran}
+-- `line_unit::chorus` meets its contract. Assumes nothing.
+use Rattle.line_unit.specs.Runs.{chorus-ran}
 use borrow.Author.Needs.{needs}
-use Rattle.proc_unit.proofs.chorus.Statement.{statement}
-use Rattle.proc_unit.proofs.chorus.Tie as tie
+use Rattle.line_unit.proofs.chorus.Statement.{statement}
+use Rattle.line_unit.proofs.chorus.Tie as tie
 
 returns : tie.Need-returns
 returns c =
