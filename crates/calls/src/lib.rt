@@ -142,7 +142,7 @@ pub fn begin(
     ensures { λ r. ⌜ Builds (now (sheet .entry)) c (now (cells .entry)) (now (regs .entry)) (now (scr .entry)) (r .answer) (r .controls) (now (cells .exit)) (now (regs .exit)) (now (scr .exit)) ⌝ }
 {
     let mut paths = [0u64; 256];
-    start::paths(sheet, count, firsts, nexts, &mut paths);
+    paths::paths(sheet, count, firsts, nexts, &mut paths);
     state::start_all(
         sheet,
         count,

@@ -1,8 +1,4 @@
-pub mod Tests
-pub mod Power
 pub mod Parts
-pub mod Small
-pub mod Quarter
 pub mod Ten
-pub mod Above
+pub mod Doubled
 pub mod Sign

@@ -22,7 +22,7 @@ use Rattle.ieee.proofs.Tests.{null, yes, no, zero-64}
 use Rattle.ieee.proofs.Build.{size-is, build, no-nan-bits}
 use Rattle.ieee.proofs.Read.{Seen, seen, level, above-no-nan}
 use Rattle.ieee.proofs.Value.{same-value, fits-odd, fits-lt, revalue, den-power}
-use Rattle.det.proofs.Tests.{subℕ-ge, subℕ-lt, le-of-not-below}
+use Rattle.double.proofs.Tests.{subℕ-ge, subℕ-lt, le-of-not-below}
 use Rattle.det.specs.Log.{exponentOf, mantissaOf, minPositive, subnormalScale}
 
 -- ---- m * 2 ^ A = N * 2 ^ B, where m has s + 1 digits and N has 53

@@ -16,8 +16,8 @@ use Rattle.ieee.proofs.Tests.{null, no, is-true, is-false, zero-64}
 use Rattle.ieee.proofs.Value.{zero-exp}
 use Rattle.ieee.proofs.Whole.{either}
 use Rattle.cast.proofs.Normal.{signed, neg-neg, neg-number}
-use Rattle.det.specs.Double.{one, horner}
-use Rattle.det.specs.Exp.{expm1Small}
+use Rattle.double.specs.Double.{one, horner}
+use Rattle.exp.specs.Exp.{expm1Small}
 use Rattle.det.specs.Tanh.{tanhAbove, tanhOf}
 
 -- ---- a pattern below 2 ^ 63 has no sign

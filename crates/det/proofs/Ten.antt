@@ -2,7 +2,7 @@
 use mathlib.Core.Path.{_≡_, refl}
 use mathlib.Core.Bool.{false}
 use lib.Ieee.{binary64, ofBits, ofInt, neg, add, sub, mul, div, lt, eq, isNan, round, size}
-use Rattle.det.specs.Double.{zero, horner}
+use Rattle.double.specs.Double.{zero, horner}
 use Rattle.det.specs.Log.{exponentOf, mantissaOf, lnSeries, lnFolded, lnOf, ten}
 
 pub ln-ten : ofBits binary64 0x4002_6bb1_bbb5_5516 ≡ lnOf ten

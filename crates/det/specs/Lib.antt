@@ -1,6 +1,3 @@
-pub mod Double
-pub mod Trig
-pub mod Exp
 pub mod Log
 pub mod Tanh
 pub mod Cases

@@ -4,8 +4,8 @@ use mathlib.Core.Bool.{true, false, cond, _||_}
 use mathlib.Core.List.{List, [], _∷_}
 use lib.IntN.{ℤ, pos, negℤ, _+ℤ_}
 use lib.Ieee.{Float, nan, inf, fin, binary64, size, lt, eq, isNan, ofInt}
-use Rattle.det.specs.Double.{_⊕_, _⊖_, _⊗_, _⊘_, bits, zero, half, one, two, horner}
-use Rattle.det.specs.Exp.{ln2Hi, ln2Lo, expOf}
+use Rattle.double.specs.Double.{_⊕_, _⊖_, _⊗_, _⊘_, bits, zero, half, one, two, horner}
+use Rattle.exp.specs.Exp.{ln2Hi, ln2Lo, expOf}
 
 -- k and m of an x above zero: x = m * 2 ^ k with 1 ≤ m < 2. An infinity counts as 2 ^ 1024, which its bit pattern would be.
 unfoldable pub exponentOf : Float → ℤ

@@ -1,8 +1,8 @@
 -- tanh from e ^ 2x, and near 0 from e ^ 2x - 1, which loses no digits there.
 use mathlib.Core.Bool.{cond}
 use lib.Ieee.{Float, nan, neg, lt, isNan}
-use Rattle.det.specs.Double.{_⊕_, _⊖_, _⊗_, _⊘_, bits, zero, one, two}
-use Rattle.det.specs.Exp.{expOf, expm1Small}
+use Rattle.double.specs.Double.{_⊕_, _⊖_, _⊗_, _⊘_, bits, zero, one, two}
+use Rattle.exp.specs.Exp.{expOf, expm1Small}
 
 abbrev pub twenty : Float
 twenty = bits 0x4034_0000_0000_0000

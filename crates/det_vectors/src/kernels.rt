@@ -5,27 +5,27 @@ pub const KERNELS: u8 = 19;
 
 fn kernel(place: u8, x: f64, y: f64) -> f64 {
     match place {
-        0 => det::sin(x),
-        1 => det::cos(x),
-        2 => det::exp(x),
+        0 => trig::sin(x),
+        1 => trig::cos(x),
+        2 => exp::exp(x),
         3 => det::ln(x),
         4 => det::powf(x, y),
         5 => det::tanh(x),
         6 => det::log10(x),
-        7 => det::expm1_small(x),
+        7 => exp::expm1_small(x),
         // The operand is on file as the f64 that casts to it.
-        8 => det::ldexp2(cast::f64_to_i64(x)),
-        9 => det::reduce_2pi(x),
-        10 => det::sin_poly(x),
-        _ => det::cos_poly(x),
+        8 => exp::ldexp2(cast::f64_to_i64(x)),
+        9 => trig::reduce_2pi(x),
+        10 => trig::sin_poly(x),
+        _ => trig::cos_poly(x),
     }
 }
 
 fn wrapper(place: u8, x: f32, y: f32) -> f32 {
     match place {
-        12 => det::sinf(x),
-        13 => det::cosf(x),
-        14 => det::expf(x),
+        12 => trig::sinf(x),
+        13 => trig::cosf(x),
+        14 => exp::expf(x),
         15 => det::lnf(x),
         16 => det::powff(x, y),
         17 => det::tanhf(x),

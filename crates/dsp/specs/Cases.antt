@@ -4,9 +4,9 @@ use lib.Ieee.{Float, binary32, ofBits, ofInt, toSigned, isNan, lt, neg, add, sub
 use Rattle.float.specs.Whole.{wholeOf}
 use Rattle.float.specs.Order.{negative, maxOf, clampOf}
 use Rattle.cast.specs.Narrow.{narrowOf}
-use Rattle.det.specs.Double.{horner}
-use Rattle.det.specs.Trig.{sinOf, cosOf, reduce2pi, quadrantOf, turned, sinPoly, cosPoly}
-use Rattle.det.specs.Exp.{powerOfTwo, expPoly, expOf}
+use Rattle.double.specs.Double.{horner}
+use Rattle.trig.specs.Trig.{sinOf, cosOf, reduce2pi, quadrantOf, turned, sinPoly, cosPoly}
+use Rattle.exp.specs.Exp.{powerOfTwo, expPoly, expOf}
 use Rattle.dsp.specs.Random.{mixed, stepped, drawn, unitOf, biOf, rangeOf, pathOf, seedOf, randSeedOf}
 use Rattle.dsp.specs.Envelope.{level, adsrOf}
 use Rattle.dsp.specs.Coefficients.{onePoleOf, followerOf, modalOf, feedbackOf}

@@ -3,9 +3,9 @@ use mathlib.Core.Path.{_≡_, refl, ap}
 use lib.Ieee.{Float, round, ofBits, ofInt, toSigned, isNan, neg, lt, add, sub, mul, div}
 use Rattle.float.specs.Whole.{wholeOf}
 use Rattle.cast.specs.Narrow.{narrowOf}
-use Rattle.det.specs.Trig.{sinOf, cosOf}
-use Rattle.det.specs.Double.{horner}
-use Rattle.det.specs.Exp.{powerOfTwo, expPoly, expOf, expm1Small}
+use Rattle.trig.specs.Trig.{sinOf, cosOf}
+use Rattle.double.specs.Double.{horner}
+use Rattle.exp.specs.Exp.{powerOfTwo, expPoly, expOf, expm1Small}
 use Rattle.det.specs.Log.{lnOf, powOf, log10Of}
 use Rattle.det.specs.Tanh.{tanhAbove, tanhOf}
 use Rattle.float.specs.Single.{_⊕_, zero, one}

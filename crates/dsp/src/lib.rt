@@ -151,7 +151,7 @@ pub fn adsr_env(t: f32, a: f32, d: f32, s: f32, r: f32, punch: f32, rel_start: f
 pub fn sin(x: f32) -> f32
     ensures { λ r. ⌜ r ≡ sine x ⌝ }
 {
-    det::sinf(x)
+    trig::sinf(x)
 }
 
 // Each number's sine, in place.
@@ -168,13 +168,13 @@ pub fn sin_block(xs: &mut [f32])
 pub fn cos(x: f32) -> f32
     ensures { λ r. ⌜ r ≡ cosine x ⌝ }
 {
-    det::cosf(x)
+    trig::cosf(x)
 }
 
 pub fn exp(x: f32) -> f32
     ensures { λ r. ⌜ r ≡ exponential x ⌝ }
 {
-    det::expf(x)
+    exp::expf(x)
 }
 
 pub fn ln_1p(x: f32) -> f32

@@ -1,8 +1,8 @@
-// The functions of `det`.
+// The functions of det.rs.
 ghost use mathlib.Core.Path.{_≡_};
 ghost use Rattle.cast.specs.Narrow.{narrowOf};
-ghost use Rattle.det.specs.Trig.{sinPoly, cosPoly, reduce2pi, sinOf, cosOf};
-ghost use Rattle.det.specs.Exp.{powerOfTwo, expOf, expm1Small};
+ghost use Rattle.trig.specs.Trig.{sinPoly, cosPoly, reduce2pi, sinOf, cosOf};
+ghost use Rattle.exp.specs.Exp.{powerOfTwo, expOf, expm1Small};
 ghost use Rattle.det.specs.Log.{lnOf, powOf, log10Of};
 ghost use Rattle.det.specs.Tanh.{tanhOf};
 
@@ -10,49 +10,49 @@ ghost use Rattle.det.specs.Tanh.{tanhOf};
 pub extern "C" fn det_sin_poly(x: f64) -> f64
     ensures { λ r. ⌜ r ≡ sinPoly x ⌝ }
 {
-    det::sin_poly(x)
+    trig::sin_poly(x)
 }
 
 #[no_mangle]
 pub extern "C" fn det_cos_poly(x: f64) -> f64
     ensures { λ r. ⌜ r ≡ cosPoly x ⌝ }
 {
-    det::cos_poly(x)
+    trig::cos_poly(x)
 }
 
 #[no_mangle]
 pub extern "C" fn det_reduce_2pi(x: f64) -> f64
     ensures { λ r. ⌜ r ≡ reduce2pi x ⌝ }
 {
-    det::reduce_2pi(x)
+    trig::reduce_2pi(x)
 }
 
 #[no_mangle]
 pub extern "C" fn det_sin(x: f64) -> f64
     ensures { λ r. ⌜ r ≡ sinOf x ⌝ }
 {
-    det::sin(x)
+    trig::sin(x)
 }
 
 #[no_mangle]
 pub extern "C" fn det_cos(x: f64) -> f64
     ensures { λ r. ⌜ r ≡ cosOf x ⌝ }
 {
-    det::cos(x)
+    trig::cos(x)
 }
 
 #[no_mangle]
 pub extern "C" fn det_exp(x: f64) -> f64
     ensures { λ r. ⌜ r ≡ expOf x ⌝ }
 {
-    det::exp(x)
+    exp::exp(x)
 }
 
 #[no_mangle]
 pub extern "C" fn det_expm1_small(x: f64) -> f64
     ensures { λ r. ⌜ r ≡ expm1Small x ⌝ }
 {
-    det::expm1_small(x)
+    exp::expm1_small(x)
 }
 
 #[no_mangle]
@@ -87,28 +87,28 @@ pub extern "C" fn det_powf(x: f64, y: f64) -> f64
 pub extern "C" fn det_ldexp2(k: i64) -> f64
     ensures { λ r. ⌜ r ≡ powerOfTwo k ⌝ }
 {
-    det::ldexp2(k)
+    exp::ldexp2(k)
 }
 
 #[no_mangle]
 pub extern "C" fn det_sinf(x: f32) -> f32
     ensures { λ r. ⌜ r ≡ narrowOf (sinOf x) ⌝ }
 {
-    det::sinf(x)
+    trig::sinf(x)
 }
 
 #[no_mangle]
 pub extern "C" fn det_cosf(x: f32) -> f32
     ensures { λ r. ⌜ r ≡ narrowOf (cosOf x) ⌝ }
 {
-    det::cosf(x)
+    trig::cosf(x)
 }
 
 #[no_mangle]
 pub extern "C" fn det_expf(x: f32) -> f32
     ensures { λ r. ⌜ r ≡ narrowOf (expOf x) ⌝ }
 {
-    det::expf(x)
+    exp::expf(x)
 }
 
 #[no_mangle]

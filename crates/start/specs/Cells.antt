@@ -1,19 +1,17 @@
--- What the start values are by kind, how many there are, and the laws of the loops that write them.
-use mathlib.Core.Path.{_≡_, refl, sym, ap, _∙_}
-use mathlib.Core.List.{List, [], _++_, map, append-assoc, append-nil}
+-- What the start values are by kind, how many there are, and the laws of the loop that writes Modal's.
+use mathlib.Core.Path.{_≡_, sym, ap, _∙_}
+use mathlib.Core.List.{List, [], _++_, append-assoc, append-nil}
 use mathlib.Core.Bool.{false, _&&_}
 use mathlib.Core.Logic.{_≢_}
 use Prim.Native.Nat.{ℕ, _+_, _-_, _*_, _≤_, _<_}
 use native.Mathlib.Omega.{arith}
 use borrow.Author.Tests.{ne-eqb, lt-ltb, le-ltb}
 use lib.Dec.{ltb}
-use lib.ListN.{length, getD, take, drop, replicate, length-append, length-take, length-drop, drop-of-length-le}
+use lib.ListN.{length, getD, take, drop, replicate, length-append, length-take, length-drop}
 use lib.Seq.{take-at, take-all, length-take-le}
-use lib.Ieee.{Float, nan, binary32, ofBits}
-use borrow.Rule.Slice.PartMut.{midOf, postOf, putMid, mid-len, same-len-mid}
+use lib.Ieee.{Float}
+use borrow.Rule.Slice.PartMut.{midOf, putMid, mid-len, same-len-mid}
 use Rattle.float.specs.Single.{zero as zeroF}
-use Rattle.tree.specs.Block.{tab, length-tab}
-use Rattle.tree.specs.Lists.{map-const}
 use Rattle.sheet.specs.Record.{rateOf, numberOf, recordAt, kind, next}
 use Rattle.sheet.specs.Tree.{records, spine}
 use Rattle.layout.specs.Built.{role, built}
@@ -24,36 +22,6 @@ use Rattle.layout.specs.Counts.{cells-built, registers-built}
 use Rattle.layout.specs.Tables.{Table, Passed}
 use Rattle.dsp.specs.Coefficients.{modalOf}
 use Rattle.unit.specs.Start.{filterStart, atRest, modeStart, modalStart, startCells, startRegisters}
-
--- ---- n zeros
-pub zeroed : (own : List Float) {out : List Float} {n : ℕ} → out ≡ map (λ x. zeroF) own → length own ≡ n → out ≡ replicate n zeroF
-zeroed own e h = e ∙ map-const zeroF own ∙ ap (λ n. replicate n zeroF) h
-
--- ---- a NaN's pattern
-pub quiet-nan : ofBits binary32 0x7fc0_0000 ≡ nan
-unfolding ofBits
-quiet-nan = refl
-
--- ---- two halves of a slice, lent one after the other
-pub halves : {A : Type 0} (n : ℕ) (own xs ys : List A) (f g : ℕ → A) → length own ≡ 2 * n → xs ≡ tab (length (take n own)) f
-    → ys ≡ tab (length (midOf n (length (xs ++ drop n own) - n) (xs ++ drop n own))) g → putMid n (length (xs ++ drop n own) - n) (xs ++ drop n own) ys ≡ tab n f ++ tab n g
-halves {A} n own xs ys f g e p q =
-    ap {A = List A} (λ l. l ++ (ys ++ postOf n (length whole - n) whole)) (take-at xs (drop n own) n front)
-    ∙ ap {A = List A} (λ l. xs ++ (ys ++ l)) (drop-of-length-le (drop n whole) {i = length whole - n} (omega (arith, length-drop n whole)))
-    ∙ ap {A = List A} (λ l. xs ++ l) (append-nil ys)
-    ∙ (λ i. (p ∙ ap (λ m. tab m f) (length-take-le n own (omega arith))) i ++ (q ∙ ap (λ m. tab m g) back) i)
-  where
-    whole : List A
-    whole = xs ++ drop n own
-
-    front : length xs ≡ n
-    front = ap length p ∙ length-tab (length (take n own)) f ∙ length-take-le n own (omega arith)
-
-    long : length (xs ++ drop n own) ≡ 2 * n
-    long = simp (length-append, length-drop) (omega (arith, front))
-
-    back : length (midOf n (length (xs ++ drop n own) - n) (xs ++ drop n own)) ≡ n
-    back = mid-len n (length (xs ++ drop n own)) (xs ++ drop n own) (omega arith) ∙ omega (arith, long)
 
 -- ---- what lies from a record on is the record at least
 pub record-room : (s : List ℕ) (i : ℕ) → 24 + 40 * (i + 1) ≤ length s → 40 ≤ length (take (length s - (24 + 40 * i)) (drop (24 + 40 * i) s))

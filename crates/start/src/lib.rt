@@ -1,17 +1,32 @@
 // What each record owns when a voice is built: its cells and its registers.
-mod kinds;
-mod places;
-
 ghost use mathlib.Core.Path.{_≡_};
 ghost use mathlib.Core.List.{[], _∷_};
 ghost use Prim.Native.Nat.{_+_, _*_, _≤_, _<_};
-ghost use lib.ListN.{length};
+ghost use lib.ListN.{length, replicate};
 ghost use Rattle.dsp.specs.Random.{stepped, seedOf};
 ghost use Rattle.sheet.specs.Record.{kind, first, next};
+ghost use Rattle.sheet.specs.Tree.{records, spine};
 ghost use Rattle.layout.specs.Built.{role, built};
 ghost use Rattle.layout.specs.Needs.{cellsBy, registersBy};
 ghost use Rattle.layout.specs.Tables.{Table, Passed};
-ghost use Rattle.unit.specs.Start.{randWord, startCells, startRegisters, path};
+ghost use Rattle.unit.specs.Start.{modalStart, randWord, startCells, startRegisters, path};
+
+// Modal: each mode at rest. The modes are the chain that begins at f.
+fn modal(sheet: &[u8], count: usize, nexts: &[usize], f: usize, own: &mut [f32])
+    requires { ⌜ Passed (now sheet) count × Table (next (now sheet)) count (now nexts) × (f < count) × (length (now own) ≡ 5 * length (spine (records (now sheet) f))) ⌝ }
+    ensures { λ r. ⌜ now (own .exit) ≡ modalStart (now (sheet .entry)) (spine (records (now (sheet .entry)) f)) ⌝ }
+{
+    let rate = sheet::rate(sheet);
+    let mut at = 0usize;
+    let mut j = f;
+    while j != 0 {
+        let a = 24 + 40 * j;
+        let e = at + 5;
+        start_values::mode(&sheet[a..], rate, &mut own[at..e]);
+        at = e;
+        j = nexts[j];
+    }
+}
 
 // The kinds after the filters.
 fn late_cells(
@@ -28,10 +43,10 @@ fn late_cells(
 {
     let a = 24 + 40 * i;
     match k {
-        31 => kinds::modal(sheet, count, nexts, firsts[i], own),
-        32 => kinds::drive(sheet::option(&sheet[a..]), own),
-        35 => kinds::compress(&sheet[a..], cast::u32_to_f32(sheet::rate(sheet)), own),
-        46 => kinds::rand(&sheet[a..], own),
+        31 => modal(sheet, count, nexts, firsts[i], own),
+        32 => start_values::drive(sheet::option(&sheet[a..]), own),
+        35 => start_values::compress(&sheet[a..], cast::u32_to_f32(sheet::rate(sheet)), own),
+        46 => start_values::rand(&sheet[a..], own),
         _ => block::fill_block(own, 0.0),
     }
 }
@@ -51,13 +66,23 @@ pub fn cells(
 {
     if k == 6 {
         let a = 24 + 40 * i;
-        kinds::super_start(&sheet[a..], own);
+        start_values::super_start(&sheet[a..], own);
     } else if k < 22 {
         block::fill_block(own, 0.0);
     } else if k < 29 {
-        kinds::filter(own);
+        start_values::filter(own);
     } else {
         late_cells(sheet, count, firsts, nexts, i, k, own);
+    }
+}
+
+fn zero_words(own: &mut [u64])
+    ensures { λ r. ⌜ now (own .exit) ≡ replicate (length (now (own .entry))) 0 ⌝ }
+{
+    let mut k = 0usize;
+    while k < own.len() {
+        own[k] = 0;
+        k += 1;
     }
 }
 
@@ -72,7 +97,7 @@ fn rand_register(r: &[u8], own: &mut [u64])
     requires { ⌜ (40 ≤ length (now r)) × (length (now own) ≡ 1) ⌝ }
     ensures { λ x. ⌜ now (own .exit) ≡ stepped (stepped (randWord (now (r .entry)))) ∷ [] ⌝ }
 {
-    let d = kinds::rand_draws(r);
+    let d = start_values::rand_draws(r);
     own[0] = d.word;
 }
 
@@ -88,16 +113,6 @@ pub fn registers(sheet: &[u8], i: usize, k: u8, key: u64, own: &mut [u64])
             let a = 24 + 40 * i;
             rand_register(&sheet[a..], own)
         }
-        _ => kinds::zero_words(own),
+        _ => zero_words(own),
     }
-}
-
-// The path of each record.
-pub fn paths(sheet: &[u8], count: usize, firsts: &[usize], nexts: &[usize], to: &mut [u64])
-    requires { ⌜ Passed (now sheet) count × Table (first (now sheet)) count (now firsts) × Table (next (now sheet)) count (now nexts) × (count ≤ length (now to)) ⌝ }
-    ensures { λ r. ⌜ Table (path (now (sheet .entry))) count (now (to .exit)) ⌝ }
-{
-    let mut owned = [0usize; 256];
-    let mut placed = [0u64; 256];
-    places::paths_in(sheet, count, firsts, nexts, &mut owned, &mut placed, to);
 }

@@ -4,7 +4,7 @@ use lib.Dec.{T}
 use lib.Ieee.{binary64, fits}
 use Rattle.ieee.proofs.Tests.{zero-by-zero-64}
 use Rattle.det.specs.Log.{lnOf}
-use Rattle.det.proofs.Tests.{minus-one-by-zero, is-nan, is-number}
+use Rattle.double.proofs.Tests.{minus-one-by-zero, is-nan, is-number}
 use Rattle.det.proofs.Parts.{not-below, scaled-normal}
 use Rattle.det.proofs.ln.Statement.{statement}
 use Rattle.det.proofs.ln.Tie as tie

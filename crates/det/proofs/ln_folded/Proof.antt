@@ -11,7 +11,7 @@ use mir.Syntax.{w32}
 use mir.Val.{SFits, ofZ, toZ}
 use mir.ValLaws.{toZ-ofZ}
 use borrow.Author.Needs.{needs}
-use Rattle.det.specs.Double.{_⊕_, _⊗_, half}
+use Rattle.double.specs.Double.{_⊕_, _⊗_, half}
 use Rattle.det.specs.Log.{lnSeries, lnFolded}
 use Rattle.det.proofs.ln_folded.Statement.{statement}
 use Rattle.det.proofs.ln_folded.Tie as tie

@@ -1,6 +1,6 @@
 -- `det::ln_series` meets its contract: the definition is the code's own arithmetic. Assumes nothing.
 use mathlib.Core.Path.{refl}
-use Rattle.det.specs.Double.{horner}
+use Rattle.double.specs.Double.{horner}
 use Rattle.det.specs.Log.{lnSeries}
 use Rattle.det.proofs.ln_series.Statement.{statement}
 use Rattle.det.proofs.ln_series.Tie as tie

@@ -3,7 +3,7 @@ use mathlib.Core.Path.{_∙_}
 use borrow.Author.Needs.{needs}
 use Rattle.ieee.proofs.Tests.{zero-by-zero-64}
 use Rattle.det.specs.Log.{powOf}
-use Rattle.det.proofs.Tests.{one-by-zero}
+use Rattle.double.proofs.Tests.{one-by-zero}
 use Rattle.det.proofs.powf_by.Statement.{statement}
 use Rattle.det.proofs.powf_by.Tie as tie
 

@@ -8,7 +8,7 @@ use lib.Ieee.{binary64, fits, toBits}
 use Rattle.ieee.proofs.Tests.{no, zero-by-zero-64}
 use Rattle.ieee.proofs.Read.{low-are}
 use Rattle.det.specs.Tanh.{tanhOf}
-use Rattle.det.proofs.Tests.{is-nan, is-number}
+use Rattle.double.proofs.Tests.{is-nan, is-number}
 use Rattle.det.proofs.Sign.{Parted, parted}
 use Rattle.det.proofs.tanh.Statement.{statement}
 use Rattle.det.proofs.tanh.Tie as tie

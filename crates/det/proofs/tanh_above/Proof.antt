@@ -1,7 +1,7 @@
 -- `det::tanh_above` meets its contract. Assumes nothing.
 use borrow.Author.Needs.{needs}
 use Rattle.det.specs.Tanh.{tanhAbove}
-use Rattle.det.proofs.Above.{doubled}
+use Rattle.det.proofs.Doubled.{doubled}
 use Rattle.det.proofs.tanh_above.Statement.{statement}
 use Rattle.det.proofs.tanh_above.Tie as tie
 

@@ -7,7 +7,8 @@ use Rattle.sheet.specs.Record.{numberOf}
 use Rattle.layout.specs.Needs.{needOf, voicesOf, cellsBy}
 use Rattle.unit.specs.Laws.{filter-need}
 use Rattle.unit.specs.Start.{superStart, startCells}
-use Rattle.start.specs.Cells.{zeroed, record-room, filter-start, low-start}
+use Rattle.start_values.specs.Written.{zeroed}
+use Rattle.start.specs.Cells.{record-room, filter-start, low-start}
 use borrow.Author.Needs.{needs}
 use Rattle.start.proofs.cells.Statement.{statement}
 use Rattle.start.proofs.cells.Tie as tie

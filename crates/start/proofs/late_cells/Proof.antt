@@ -9,7 +9,8 @@ use Rattle.sheet.specs.Record.{optionOf, numberOf, recordAt}
 use Rattle.layout.specs.Needs.{needOf, cellsBy}
 use Rattle.layout.specs.Tables.{first-entry}
 use Rattle.unit.specs.Start.{driveStart, compressStart, randStart, startCells}
-use Rattle.start.specs.Cells.{zeroed, record-room, chainStart, high-start}
+use Rattle.start_values.specs.Written.{zeroed}
+use Rattle.start.specs.Cells.{record-room, chainStart, high-start}
 use borrow.Author.Needs.{needs}
 use Rattle.start.proofs.late_cells.Statement.{statement}
 use Rattle.start.proofs.late_cells.Tie as tie

@@ -3,7 +3,7 @@ use native.Mathlib.Omega.{arith}
 use borrow.Author.Tests.{le-leb, lt-leb}
 use lib.ListN.{length-set}
 use Rattle.layout.specs.Tables.{code-unbuilt, code-built}
-use Rattle.start.specs.Cells.{quiet-nan}
+use Rattle.start_values.specs.Written.{quiet-nan}
 use borrow.Author.Needs.{needs}
 use Rattle.state.proofs.scale.Statement.{statement}
 use Rattle.state.proofs.scale.Tie as tie

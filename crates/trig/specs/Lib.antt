@@ -1,0 +1,2 @@
+pub mod Trig
+pub mod Cases
