@@ -1,75 +1,11 @@
 // Checks 3 and 4 of document 01, in a pass over the records that fills tables of their kinds and links.
 ghost use mathlib.Core.Path.{_≡_};
 ghost use mathlib.Core.Bool.{true};
-ghost use Prim.Native.Nat.{_+_, _-_, _*_, _≤_, min};
-ghost use lib.Dec.{eqb};
+ghost use Prim.Native.Nat.{_+_, _*_, _≤_};
 ghost use lib.ListN.{length};
-ghost use Rattle.sheet.specs.Bytes.{byteAt, u64At};
 ghost use Rattle.sheet.specs.Record.{countOf};
-ghost use Rattle.sheet.specs.Checks.{all, recordOk, linkOk};
 ghost use Rattle.sheet.specs.Codes.{optionsTable, numbersTable};
-ghost use Rattle.sheet.specs.Links.{linksAt, Decoded};
-
-// Numbers k and k + 1 of the record as one word.
-fn pair(r: &[u8], k: usize) -> u64
-    requires { ⌜ (40 ≤ length (now r)) × (k ≤ 6) ⌝ }
-    ensures { λ x. ⌜ x ≡ u64At (now (r .entry)) (8 + 4 * k) ⌝ }
-{
-    sheet::double(r, 8 + 4 * k)
-}
-
-// The last place with a number after it, where k is past that.
-fn within(k: usize) -> usize
-    ensures { λ r. ⌜ r ≡ min k 6 ⌝ }
-{
-    if k < 6 { k } else { 6 }
-}
-
-// Whether the numbers from m on are zero, two at a time: words that overlap cost less than a branch on how many there are.
-// Joined by |, and not compared one by one, each is one load.
-fn unset(r: &[u8], m: u8) -> bool
-    requires { ⌜ (40 ≤ length (now r)) × (m ≤ 7) ⌝ }
-    ensures { λ x. ⌜ x ≡ all (λ k. eqb (byteAt (now (r .entry)) (8 + 4 * m + k)) 0) (32 - 4 * m) ⌝ }
-{
-    if 6 < m {
-        return sheet::bits(r, 7) == 0;
-    }
-    let k = m as usize;
-    (pair(r, k) | pair(r, within(k + 2)) | pair(r, within(k + 4)) | pair(r, 6)) == 0
-}
-
-// 3, of one record. The test of the kind serves both tables.
-fn record_ok(r: &[u8], options: &[u8; 53], numbers: &[u8; 53]) -> bool
-    requires { ⌜ (40 ≤ length (now r)) × (now options ≡ optionsTable) × (now numbers ≡ numbersTable) ⌝ }
-    ensures { λ x. ⌜ x ≡ recordOk (now (r .entry)) ⌝ }
-{
-    let k = sheet::kind(r);
-    if 52 < k {
-        return false;
-    }
-    if sheet::kinds::options(options, k) <= sheet::option(r) {
-        return false;
-    }
-    if sheet::half(r, 6) != 0 {
-        return false;
-    }
-    unset(r, sheet::kinds::numbers(numbers, k))
-}
-
-// 4, of one link of record i, and of its two. Some record is there, so that a link of 0 is below n too.
-fn link_ok(i: usize, l: usize, n: usize) -> bool
-    requires { ⌜ 1 ≤ n ⌝ }
-    ensures { λ r. ⌜ r ≡ linkOk i l n ⌝ }
-{
-    ((l == 0) | (i < l)) & (l < n)
-}
-
-fn links_ok(n: usize, i: usize, l: usize, m: usize) -> bool
-    requires { ⌜ 1 ≤ n ⌝ }
-    ensures { λ r. ⌜ r ≡ linksAt n i l m ⌝ }
-{
-    link_ok(i, l, n) & link_ok(i, m, n) & ((0 < i) | (m == 0))
-}
+ghost use Rattle.sheet.specs.Links.{Decoded};
 
 // 3 and 4: fills the tables on the way, and stops at a fault. A sheet that has none takes half the steps of `records_ok`.
 fn passes(
@@ -91,7 +27,7 @@ fn passes(
         let r = &sheet[24 + 40 * i..];
         let f = sheet::first(r);
         let x = sheet::next(r);
-        if record_ok(r, options, numbers) & links_ok(n, i, f, x) {
+        if fields::record_ok(r, options, numbers) & fields::links_ok(n, i, f, x) {
             kinds[i] = sheet::kind(r);
             first[i] = f;
             next[i] = x;
@@ -125,8 +61,8 @@ fn records_ok(
         let r = &sheet[24 + 40 * i..];
         let f = sheet::first(r);
         let x = sheet::next(r);
-        records = records & record_ok(r, options, numbers);
-        links = links & links_ok(n, i, f, x);
+        records = records & fields::record_ok(r, options, numbers);
+        links = links & fields::links_ok(n, i, f, x);
         kinds[i] = sheet::kind(r);
         first[i] = f;
         next[i] = x;

@@ -1,8 +1,8 @@
--- `records::links_ok` meets its contract. Assumes nothing.
+-- `fields::links_ok` meets its contract. Assumes nothing.
 use borrow.Author.Needs.{needs}
 use Rattle.sheet.specs.Links.{linksAt}
-use Rattle.records.proofs.links_ok.Statement.{statement}
-use Rattle.records.proofs.links_ok.Tie as tie
+use Rattle.fields.proofs.links_ok.Statement.{statement}
+use Rattle.fields.proofs.links_ok.Tie as tie
 
 returns : tie.Need-returns
 unfolding linksAt

@@ -1,4 +1,4 @@
--- `records::record_ok` meets its contract: a number past the table is no kind's, and has no option. Assumes nothing.
+-- `fields::record_ok` meets its contract: a number past the table is no kind's, and has no option. Assumes nothing.
 use mathlib.Core.Path.{_≡_, sym, _∙_}
 use mathlib.Core.Bool.{false}
 use mathlib.Core.List.{List}
@@ -15,8 +15,8 @@ use Rattle.sheet.specs.Codes.{optionsTable}
 use Rattle.sheet.specs.Checks.{all, recordOk}
 use Rattle.sheet.specs.Laws.{and-false}
 use Rattle.sheet.specs.Table.{past, entry}
-use Rattle.records.proofs.record_ok.Statement.{statement}
-use Rattle.records.proofs.record_ok.Tie as tie
+use Rattle.fields.proofs.record_ok.Statement.{statement}
+use Rattle.fields.proofs.record_ok.Tie as tie
 
 module _ (r : List ℕ) where
   no-option : rowOf (kindOf r) .options ≤ optionOf r → false ≡ recordOk r

@@ -1,4 +1,4 @@
--- `records::unset` meets its contract: the words that it looks at cover the numbers from m on, and no other. Assumes nothing.
+-- `fields::unset` meets its contract: the words that it looks at cover the numbers from m on, and no other. Assumes nothing.
 use mathlib.Core.Path.{_≡_, sym, ap, ap₂, _∙_}
 use mathlib.Core.Bool.{Bool, true}
 use mathlib.Core.List.{List}
@@ -13,8 +13,8 @@ use borrow.Author.Tests.{eqb-true, eq-eqb}
 use Rattle.sheet.specs.Bytes.{byteAt, u32At, u64At}
 use Rattle.sheet.specs.Checks.{all}
 use Rattle.sheet.specs.Laws.{same, all-at, all-of}
-use Rattle.records.proofs.unset.Statement.{statement}
-use Rattle.records.proofs.unset.Tie as tie
+use Rattle.fields.proofs.unset.Statement.{statement}
+use Rattle.fields.proofs.unset.Tie as tie
 
 or-none : (a b : ℕ) → bitOr a b ≡ 0 → (a ≡ 0) × (b ≡ 0)
 or-none a b e = (omega (arith, or-add-and a b, and-le-r a b, e), omega (arith, or-add-and a b, and-le-l a b, e))

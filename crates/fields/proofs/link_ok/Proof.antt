@@ -1,4 +1,4 @@
--- `records::link_ok` meets its contract: 0 is below n too. Assumes nothing.
+-- `fields::link_ok` meets its contract: 0 is below n too. Assumes nothing.
 use mathlib.Core.Path.{_≡_}
 use mathlib.Core.Bool.{_&&_, _||_}
 use Prim.Native.Nat.{ℕ, _≤_}
@@ -7,8 +7,8 @@ use native.Mathlib.Decide.{ℕ-discrete}
 use lib.Dec.{eqb, ltb}
 use borrow.Author.Tests.{eq-eqb, ne-eqb, lt-ltb}
 use Rattle.sheet.specs.Checks.{linkOk}
-use Rattle.records.proofs.link_ok.Statement.{statement}
-use Rattle.records.proofs.link_ok.Tie as tie
+use Rattle.fields.proofs.link_ok.Statement.{statement}
+use Rattle.fields.proofs.link_ok.Tie as tie
 
 link-is : (i l n : ℕ) → 1 ≤ n → ((eqb l 0 || ltb i l) && ltb l n) ≡ linkOk i l n
 unfolding linkOk
