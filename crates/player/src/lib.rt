@@ -62,7 +62,7 @@ fn fill_by(
     requires { ⌜ Rows (now sheet) (length (now kinds)) × (length (now kinds) ≤ length (now firsts)) × (length (now kinds) ≤ length (now nexts)) × (length (now kinds) ≤ length (now lasts)) × (length (now kinds) ≤ length (now acts)) × (length (now kinds) ≤ length (now begins)) × (length (now kinds) ≤ length (now afters)) × (length (now kinds) < length (now places)) × (length (now kinds) < length (now words)) × (length (now kinds) < length (now blocks)) ⌝ }
     ensures { λ r. ⌜ Fills (now (sheet .entry)) c (now (out .entry)) (now (cells .entry)) (now (regs .entry)) (now (scr .entry)) (r .answer) (r .controls) (now (out .exit)) (now (cells .exit)) (now (regs .exit)) (now (scr .exit)) ⌝ }
 {
-    let p = tables::prepare(
+    let p = prepare::prepare(
         sheet,
         cells.len(),
         regs.len(),
@@ -238,7 +238,7 @@ fn cutoff_by(
     requires { ⌜ Rows (now sheet) (length (now kinds)) × (length (now kinds) ≤ length (now firsts)) × (length (now kinds) ≤ length (now nexts)) × (length (now kinds) ≤ length (now lasts)) × (length (now kinds) ≤ length (now acts)) × (length (now kinds) ≤ length (now begins)) × (length (now kinds) ≤ length (now afters)) × (length (now kinds) < length (now places)) × (length (now kinds) < length (now words)) × (length (now kinds) < length (now blocks)) ⌝ }
     ensures { λ r. ⌜ Cuts (now (sheet .entry)) x (now (cells .entry)) (length (now (regs .entry))) (length (now (scr .entry))) r (now (cells .exit)) ⌝ }
 {
-    let p = tables::prepare(
+    let p = prepare::prepare(
         sheet,
         cells.len(),
         regs.len(),
@@ -359,7 +359,7 @@ pub fn build(
     let mut places = [0usize; 257];
     let mut words = [0usize; 257];
     let mut blocks = [0usize; 257];
-    let p = tables::prepare(
+    let p = prepare::prepare(
         sheet,
         cells.len(),
         regs.len(),

@@ -1,14 +1,14 @@
--- `tables::prepare` meets its contract. Assumes nothing.
+-- `prepare::prepare` meets its contract. Assumes nothing.
 use mathlib.Core.Path.{_≡_, sym, ap, _∙_}
 use native.Mathlib.Omega.{arith}
 use mathlib.Core.Bool.{true, false}
 use Rattle.sheet.specs.Checks.{checkOf}
 use Rattle.tables.specs.declared.Needed.{Needed}
 use Rattle.tables.specs.Answer.{needed-check, needed-all}
 use Rattle.tables.specs.Tables.{room-checked, sheet-checked}
 use borrow.Author.Needs.{needs}
-use Rattle.tables.proofs.prepare.Statement.{statement}
-use Rattle.tables.proofs.prepare.Tie as tie
+use Rattle.prepare.proofs.prepare.Statement.{statement}
+use Rattle.prepare.proofs.prepare.Tie as tie
 
 measure-requires : tie.Need-measure-requires
 measure-requires c κs = (c .before .before .before .before .before .before .before .before .before .before .before .before .before .before .before .before .before .before .before .before .before) .pre
