@@ -1,7 +1,7 @@
--- `shape::wanted` meets its contract. Assumes nothing.
+-- `chains::wanted` meets its contract. Assumes nothing.
 use borrow.Author.Tests.{lt-ltb, le-ltb}
-use Rattle.shape.proofs.wanted.Statement.{statement}
-use Rattle.shape.proofs.wanted.Tie as tie
+use Rattle.chains.proofs.wanted.Statement.{statement}
+use Rattle.chains.proofs.wanted.Tie as tie
 
 returns : tie.Need-returns
 returns c = rw (lt-ltb _ _ (c .if1 .taken))

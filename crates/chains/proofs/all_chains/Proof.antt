@@ -1,4 +1,4 @@
--- `shape::all_chains` meets its contract. The invariant: every chain of the records below i passed. Assumes nothing.
+-- `chains::all_chains` meets its contract. The invariant: every chain of the records below i passed. Assumes nothing.
 use mathlib.Core.Path.{_≡_, refl, sym, ap, _∙_}
 use mathlib.Core.Bool.{Bool, true}
 use mathlib.Core.List.{List}
@@ -9,8 +9,8 @@ use borrow.Author.Needs.{needs}
 use Rattle.sheet.specs.Checks.{all}
 use Rattle.sheet.specs.Links.{at, chainAt}
 use Rattle.sheet.specs.Laws.{all-suc, all-fails}
-use Rattle.shape.proofs.all_chains.Statement.{statement}
-use Rattle.shape.proofs.all_chains.Tie as tie
+use Rattle.chains.proofs.all_chains.Statement.{statement}
+use Rattle.chains.proofs.all_chains.Tie as tie
 
 abbrev chain : List ℕ → List ℕ → List ℕ → ℕ → Bool
 chain kinds first next i = chainAt (at kinds) (at first) (at next) (length first) i

@@ -1,4 +1,4 @@
--- `shape::chain_ok` meets its contract. Assumes nothing.
+-- `chains::chain_ok` meets its contract. Assumes nothing.
 use mathlib.Core.Path.{_≡_, refl, sym, ap, ap₂, _∙_}
 use mathlib.Core.Bool.{Bool, true, false, _&&_, _||_}
 use mathlib.Core.List.{List}
@@ -11,8 +11,8 @@ use Rattle.sheet.specs.Codes.{chainOf, classOf, wantOf}
 use Rattle.sheet.specs.Checks.{every, holds}
 use Rattle.sheet.specs.Links.{along, chainAt}
 use Rattle.sheet.specs.LinkLaws.{along-nil, holds-nil, holds-is}
-use Rattle.shape.proofs.chain_ok.Statement.{statement}
-use Rattle.shape.proofs.chain_ok.Tie as tie
+use Rattle.chains.proofs.chain_ok.Statement.{statement}
+use Rattle.chains.proofs.chain_ok.Tie as tie
 
 none : (c : ℕ) (h : Chain) (k f x : ℕ → ℕ) (n j : ℕ) → chainOf c ≡ h → c ≤ 5 → j ≡ 0 → (eqb c 0 || ltb 2 c) ≡ holds h (along k f x n j)
 none c h k f x n j ec l e = holds-nil c l ∙ ap₂ holds ec (sym (ap (λ (i : ℕ). along k f x n i) e ∙ along-nil k f x n))

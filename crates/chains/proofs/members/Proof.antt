@@ -1,4 +1,4 @@
--- `shape::members` meets its contract. The invariant: what is counted so far, each of the class, with what is left of the chain makes the whole. Assumes nothing.
+-- `chains::members` meets its contract. The invariant: what is counted so far, each of the class, with what is left of the chain makes the whole. Assumes nothing.
 use mathlib.Core.Path.{sym, ap, _∙_}
 use mathlib.Core.Bool.{Bool, true}
 use Prim.Native.Nat.{ℕ}
@@ -11,8 +11,8 @@ use Rattle.sheet.specs.Codes.{classOf}
 use Rattle.sheet.specs.Links.{at}
 use Rattle.sheet.specs.Laws.{never}
 use Rattle.sheet.specs.LinkLaws.{left, left-falls, first-below, Walked, walk-start, walk-turn, walk-stop, walk-all, walk-count}
-use Rattle.shape.proofs.members.Statement.{statement}
-use Rattle.shape.proofs.members.Tie as tie
+use Rattle.chains.proofs.members.Statement.{statement}
+use Rattle.chains.proofs.members.Tie as tie
 
 abbrev is : ℕ → ℕ → Bool
 is class k = eqb (classOf k) class
