@@ -14,8 +14,8 @@ use Rattle.source_block.specs.declared.Fm.{Fm}
 use Rattle.source_block.specs.declared.Pink.{Pink}
 use Rattle.source_block.specs.declared.Brown.{Brown}
 use Rattle.source_block.specs.declared.Dust.{Dust}
-use Rattle.proc.specs.declared.Filter.{Filter}
-use Rattle.proc.specs.declared.Drive.{Drive}
+use Rattle.filter_step.specs.declared.Filter.{Filter}
+use Rattle.drive_step.specs.declared.Drive.{Drive}
 use Rattle.biquad.specs.declared.FilterKind.{FilterKind}
 
 abbrev pub wordAt : List ℕ → ℕ

@@ -9,9 +9,10 @@ use Rattle.block.specs.Iterate.{at, given, after, part-while, word}
 use Rattle.control.specs.declared.Controls.{Controls}
 use Rattle.dsl.specs.declared.DriveShape.{DriveShape}
 use Rattle.biquad.specs.declared.FilterKind.{FilterKind}
-use Rattle.proc.specs.declared.Filter.{Filter}
-use Rattle.proc.specs.declared.Drive.{Drive}
-use Rattle.proc.specs.Effects.{tremoloOf, delayOf, nextPlace, chorusRead, chorusOf}
+use Rattle.filter_step.specs.declared.Filter.{Filter}
+use Rattle.drive_step.specs.declared.Drive.{Drive}
+use Rattle.proc.specs.Effects.{tremoloOf}
+use Rattle.line_step.specs.Line.{delayOf, nextPlace, chorusRead, chorusOf}
 use Rattle.proc_block.specs.Steps.{gainStep, filterStep, driveStepAt, drivePlainStep, tremoloStep, compressStep}
 use Rattle.line_block.specs.Steps.{delayStep, chorusStep}
 use Rattle.lines.specs.Lines.{reverbLines}

@@ -170,11 +170,11 @@ pub fn play0(
 
 // ---- those with a value
 
-fn load_filter(cells: &[f32]) -> proc::Filter
+fn load_filter(cells: &[f32]) -> filter_step::Filter
     requires { ⌜ length (now cells) ≡ 11 ⌝ }
     ensures { λ s. ⌜ s ≡ filterIn (now (cells .entry)) ⌝ }
 {
-    proc::Filter {
+    filter_step::Filter {
         scale: cells[0],
         prev_f: cells[1],
         b0: cells[2],
@@ -189,7 +189,7 @@ fn load_filter(cells: &[f32]) -> proc::Filter
     }
 }
 
-fn store_filter(cells: &mut [f32], s: proc::Filter)
+fn store_filter(cells: &mut [f32], s: filter_step::Filter)
     requires { ⌜ length (now cells) ≡ 11 ⌝ }
     ensures { λ v. ⌜ now (cells .exit) ≡ filterCells s ⌝ }
 {
@@ -217,11 +217,11 @@ fn filter(r: &[u8], sr: u32, kind: u8, out: &mut [f32], v: &[f32], cells: &mut [
     store_filter(cells, t);
 }
 
-fn load_drive(cells: &[f32]) -> proc::Drive
+fn load_drive(cells: &[f32]) -> drive_step::Drive
     requires { ⌜ length (now cells) ≡ 4 ⌝ }
     ensures { λ s. ⌜ s ≡ driveIn (now (cells .entry)) ⌝ }
 {
-    proc::Drive {
+    drive_step::Drive {
         x_prev: cells[0],
         f_prev: cells[1],
         dc_x: cells[2],
@@ -229,7 +229,7 @@ fn load_drive(cells: &[f32]) -> proc::Drive
     }
 }
 
-fn store_drive(cells: &mut [f32], s: proc::Drive)
+fn store_drive(cells: &mut [f32], s: drive_step::Drive)
     requires { ⌜ length (now cells) ≡ 4 ⌝ }
     ensures { λ v. ⌜ now (cells .exit) ≡ driveCells s ⌝ }
 {
