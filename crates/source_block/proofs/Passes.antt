@@ -9,7 +9,7 @@ use Rattle.float.specs.Single.{_⊕_, _⊗_, tau}
 use Rattle.dsp.specs.Math.{sine}
 use Rattle.dsp.specs.Map.{map-tab, mapped-length, mapped-at}
 use Rattle.osc.specs.Osc.{oscOf}
-use Rattle.dsp.specs.Envelope.{adsrOf}
+use Rattle.envelope.specs.Envelope.{adsrOf}
 use Rattle.block.specs.Iterate.{at, after, given, sampleAt, given-length, given-at}
 use Rattle.source.specs.Oscillators.{sineOf, fmOf}
 use Rattle.source.specs.Others.{envOf}

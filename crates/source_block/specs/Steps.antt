@@ -4,7 +4,7 @@ use Prim.Native.Nat.{ℕ, _+_}
 use lib.Ieee.{Float}
 use Rattle.float.specs.Single.{_⊕_, _⊗_, _⊘_, tau}
 use Rattle.block.specs.Iterate.{at}
-use Rattle.dsp.specs.Envelope.{adsrOf}
+use Rattle.envelope.specs.Envelope.{adsrOf}
 use Rattle.value.specs.Modulators.{secondsOf}
 use Rattle.source.specs.Oscillators.{hertz, increment, advance, sineOf, squareOf, sawOf, triangleOf, fmOf}
 use Rattle.source.specs.Others.{impactOf, envOf, whiteOf, pinkOf, brownOf, dustOf}

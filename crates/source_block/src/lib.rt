@@ -254,7 +254,7 @@ fn env_levels(out: &mut [f32], a: f32, d: f32, s: f32, r: f32, punch: f32, rel_s
 {
     let mut k: usize = 0;
     while k < out.len() {
-        out[k] = dsp::adsr_env(out[k], a, d, s, r, punch, rel_start);
+        out[k] = envelope::adsr_env(out[k], a, d, s, r, punch, rel_start);
         k += 1;
     }
 }

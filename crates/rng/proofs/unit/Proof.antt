@@ -1,13 +1,13 @@
--- `dsp::unit` meets its contract. Assumes nothing.
+-- `rng::unit` meets its contract. Assumes nothing.
 use Prim.Native.Nat.{_^_}
 use native.Mathlib.Nat.{le-of-lt}
 use lib.Dec.{le→leb}
 use lib.Pow.{shr-lt}
 use lib.Ieee.{inFloat}
 use borrow.Author.Needs.{needs}
-use Rattle.dsp.specs.Random.{unitOf}
-use Rattle.dsp.proofs.unit.Statement.{statement}
-use Rattle.dsp.proofs.unit.Tie as tie
+use Rattle.rng.specs.Random.{unitOf}
+use Rattle.rng.proofs.unit.Statement.{statement}
+use Rattle.rng.proofs.unit.Tie as tie
 
 int-to-float-t4 : tie.Need-int-to-float-t4
 unfolding inFloat

@@ -1,8 +1,8 @@
--- `dsp::splitmix_mix` meets its contract. Assumes nothing.
+-- `rng::splitmix_mix` meets its contract. Assumes nothing.
 use borrow.Author.Needs.{needs}
-use Rattle.dsp.specs.Random.{mixed}
-use Rattle.dsp.proofs.splitmix_mix.Statement.{statement}
-use Rattle.dsp.proofs.splitmix_mix.Tie as tie
+use Rattle.rng.specs.Random.{mixed}
+use Rattle.rng.proofs.splitmix_mix.Statement.{statement}
+use Rattle.rng.proofs.splitmix_mix.Tie as tie
 
 returns : tie.Need-returns
 unfolding mixed

@@ -1,8 +1,8 @@
--- `dsp::rand_seed` meets its contract. Assumes nothing.
+-- `rng::rand_seed` meets its contract. Assumes nothing.
 use borrow.Author.Needs.{needs}
-use Rattle.dsp.specs.Random.{randSeedOf}
-use Rattle.dsp.proofs.rand_seed.Statement.{statement}
-use Rattle.dsp.proofs.rand_seed.Tie as tie
+use Rattle.rng.specs.Random.{randSeedOf}
+use Rattle.rng.proofs.rand_seed.Statement.{statement}
+use Rattle.rng.proofs.rand_seed.Tie as tie
 
 returns : tie.Need-returns
 unfolding randSeedOf

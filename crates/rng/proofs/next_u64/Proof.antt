@@ -1,7 +1,7 @@
--- `dsp::next_u64` meets its contract. Assumes nothing.
+-- `rng::next_u64` meets its contract. Assumes nothing.
 use borrow.Author.Needs.{needs}
-use Rattle.dsp.proofs.next_u64.Statement.{statement}
-use Rattle.dsp.proofs.next_u64.Tie as tie
+use Rattle.rng.proofs.next_u64.Statement.{statement}
+use Rattle.rng.proofs.next_u64.Tie as tie
 
 returns : tie.Need-returns
 returns c = rw (c .splitmix-mix .ensures, c .before .wrapping-add-u64 .ensures)

@@ -1,4 +1,4 @@
--- `dsp::bi` meets its contract. Assumes nothing.
+-- `rng::bi` meets its contract. Assumes nothing.
 use mathlib.Core.Path.{sym, ap, _∙_}
 use Prim.Native.Nat.{_/_, _^_}
 use native.Mathlib.Nat.{le-of-lt}
@@ -8,12 +8,12 @@ use lib.Pow.{shr-lt}
 use lib.Ieee.{Float, binary32, inFloat, ofBits, ofInt}
 use borrow.Author.Needs.{needs}
 use Rattle.float.specs.Single.{_⊖_, _⊗_, _⊘_, one, two}
-use Rattle.dsp.specs.declared.Word.{Word}
-use Rattle.dsp.specs.declared.Drawn.{Drawn}
-use Rattle.dsp.specs.Random.{unitOf, biOf}
-use Rattle.dsp.proofs.Halves.{twice-drawn}
-use Rattle.dsp.proofs.bi.Statement.{statement}
-use Rattle.dsp.proofs.bi.Tie as tie
+use Rattle.rng.specs.declared.Word.{Word}
+use Rattle.rng.specs.declared.Drawn.{Drawn}
+use Rattle.rng.specs.Random.{unitOf, biOf}
+use Rattle.rng.proofs.Halves.{twice-drawn}
+use Rattle.rng.proofs.bi.Statement.{statement}
+use Rattle.rng.proofs.bi.Tie as tie
 
 int-to-float-t4 : tie.Need-int-to-float-t4
 unfolding inFloat

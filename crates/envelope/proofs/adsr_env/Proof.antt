@@ -1,11 +1,11 @@
--- `dsp::adsr_env` meets its contract. Assumes nothing.
+-- `envelope::adsr_env` meets its contract. Assumes nothing.
 use mathlib.Core.Path.{_≡_, refl}
 use mathlib.Core.Bool.{Bool, true, false, cond, _&&_}
 use lib.Ieee.{Float}
 use borrow.Author.Needs.{needs}
-use Rattle.dsp.specs.Envelope.{adsrOf}
-use Rattle.dsp.proofs.adsr_env.Statement.{statement}
-use Rattle.dsp.proofs.adsr_env.Tie as tie
+use Rattle.envelope.specs.Envelope.{adsrOf}
+use Rattle.envelope.proofs.adsr_env.Statement.{statement}
+use Rattle.envelope.proofs.adsr_env.Tie as tie
 
 -- no punch outside its window
 outside : (p w : Bool) (x v : Float) → cond (p && w && false) x v ≡ v

@@ -1,8 +1,8 @@
--- `dsp::adsr_level` meets its contract. Assumes nothing.
+-- `envelope::adsr_level` meets its contract. Assumes nothing.
 use borrow.Author.Needs.{needs}
-use Rattle.dsp.specs.Envelope.{level}
-use Rattle.dsp.proofs.adsr_level.Statement.{statement}
-use Rattle.dsp.proofs.adsr_level.Tie as tie
+use Rattle.envelope.specs.Envelope.{level}
+use Rattle.envelope.proofs.adsr_level.Statement.{statement}
+use Rattle.envelope.proofs.adsr_level.Tie as tie
 
 returns : tie.Need-returns
 unfolding level

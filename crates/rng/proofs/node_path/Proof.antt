@@ -1,8 +1,8 @@
--- `dsp::node_path` meets its contract. Assumes nothing.
+-- `rng::node_path` meets its contract. Assumes nothing.
 use borrow.Author.Needs.{needs}
-use Rattle.dsp.specs.Random.{pathOf}
-use Rattle.dsp.proofs.node_path.Statement.{statement}
-use Rattle.dsp.proofs.node_path.Tie as tie
+use Rattle.rng.specs.Random.{pathOf}
+use Rattle.rng.proofs.node_path.Statement.{statement}
+use Rattle.rng.proofs.node_path.Tie as tie
 
 returns : tie.Need-returns
 unfolding pathOf

@@ -1,8 +1,8 @@
--- `dsp::node_seed` meets its contract. Assumes nothing.
+-- `rng::node_seed` meets its contract. Assumes nothing.
 use borrow.Author.Needs.{needs}
-use Rattle.dsp.specs.Random.{seedOf}
-use Rattle.dsp.proofs.node_seed.Statement.{statement}
-use Rattle.dsp.proofs.node_seed.Tie as tie
+use Rattle.rng.specs.Random.{seedOf}
+use Rattle.rng.proofs.node_seed.Statement.{statement}
+use Rattle.rng.proofs.node_seed.Tie as tie
 
 returns : tie.Need-returns
 unfolding seedOf

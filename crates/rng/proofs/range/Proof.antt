@@ -1,8 +1,8 @@
--- `dsp::range` meets its contract. Assumes nothing.
+-- `rng::range` meets its contract. Assumes nothing.
 use borrow.Author.Needs.{needs}
-use Rattle.dsp.specs.Random.{rangeOf}
-use Rattle.dsp.proofs.range.Statement.{statement}
-use Rattle.dsp.proofs.range.Tie as tie
+use Rattle.rng.specs.Random.{rangeOf}
+use Rattle.rng.proofs.range.Statement.{statement}
+use Rattle.rng.proofs.range.Tie as tie
 
 returns : tie.Need-returns
 unfolding rangeOf

@@ -1,6 +1,6 @@
--- `dsp::ramp` meets its contract. Assumes nothing.
-use Rattle.dsp.proofs.ramp.Statement.{statement}
-use Rattle.dsp.proofs.ramp.Tie as tie
+-- `envelope::ramp` meets its contract. Assumes nothing.
+use Rattle.envelope.proofs.ramp.Statement.{statement}
+use Rattle.envelope.proofs.ramp.Tie as tie
 
 returns : tie.Need-returns
 returns c = rw (c .if1 .taken)
