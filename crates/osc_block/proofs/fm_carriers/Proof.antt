@@ -1,4 +1,4 @@
--- `source_block::fm_carriers` meets its contract. Assumes nothing.
+-- `osc_block::fm_carriers` meets its contract. Assumes nothing.
 use mathlib.Core.Path.{ap}
 use Prim.Native.Nat.{_-_}
 use native.Mathlib.Nat.{le-refl}
@@ -8,10 +8,10 @@ use lib.Ieee.{Float, nan}
 use Rattle.float.specs.Single.{_⊕_, _⊗_, tau}
 use Rattle.block.specs.Iterate.{at}
 use Rattle.block.specs.Loop.{Going, going-start, going-turn, going-end}
-use Rattle.source_block.specs.Steps.{carrierStep}
+use Rattle.osc_block.specs.Steps.{carrierStep}
 use borrow.Author.Needs.{needs}
-use Rattle.source_block.proofs.fm_carriers.Statement.{statement}
-use Rattle.source_block.proofs.fm_carriers.Tie as tie
+use Rattle.osc_block.proofs.fm_carriers.Statement.{statement}
+use Rattle.osc_block.proofs.fm_carriers.Tie as tie
 
 abbrev Inv-loop : tie.InvT-loop
 Inv-loop out₀ f index pitch srf cph c₀ k₀ out c k = Going nan (carrierStep out₀ f index pitch srf) cph out₀ k out c

@@ -1,4 +1,4 @@
--- `source_block::dust_block` meets its contract. Assumes nothing.
+-- `noise_block::dust_block` meets its contract. Assumes nothing.
 use mathlib.Core.Path.{ap}
 use Prim.Native.Nat.{_-_}
 use native.Mathlib.Omega.{arith}
@@ -6,10 +6,10 @@ use lib.ListN.{length}
 use lib.Ieee.{nan}
 use Rattle.block.specs.Loop.{Going, going-start, going-turn, going-end}
 use Rattle.source.specs.declared.DustOut.{DustOut}
-use Rattle.source_block.specs.Steps.{dustStep, dustNext}
+use Rattle.noise_block.specs.Steps.{dustStep, dustNext}
 use borrow.Author.Needs.{needs}
-use Rattle.source_block.proofs.dust_block.Statement.{statement}
-use Rattle.source_block.proofs.dust_block.Tie as tie
+use Rattle.noise_block.proofs.dust_block.Statement.{statement}
+use Rattle.noise_block.proofs.dust_block.Tie as tie
 
 abbrev Inv-loop : tie.InvT-loop
 Inv-loop out₀ chance decay p₀ k₀ out p k = Going nan (dustStep chance decay) p₀ out₀ k out p

@@ -1,4 +1,4 @@
--- `source_block::triangle_block` meets its contract. Assumes nothing.
+-- `osc_block::triangle_block` meets its contract. Assumes nothing.
 use mathlib.Core.Path.{ap}
 use Prim.Native.Nat.{_-_}
 use native.Mathlib.Omega.{arith}
@@ -6,10 +6,10 @@ use lib.ListN.{length}
 use lib.Ieee.{nan}
 use Rattle.block.specs.Loop.{Going, going-start, going-turn, going-end}
 use Rattle.source.specs.declared.TriangleOut.{TriangleOut}
-use Rattle.source_block.specs.Steps.{triangleStep, triangleNext}
+use Rattle.osc_block.specs.Steps.{triangleStep, triangleNext}
 use borrow.Author.Needs.{needs}
-use Rattle.source_block.proofs.triangle_block.Statement.{statement}
-use Rattle.source_block.proofs.triangle_block.Tie as tie
+use Rattle.osc_block.proofs.triangle_block.Statement.{statement}
+use Rattle.osc_block.proofs.triangle_block.Tie as tie
 
 abbrev Inv-loop : tie.InvT-loop
 Inv-loop out₀ f pitch srf p₀ k₀ out p k = Going nan (triangleStep f pitch srf) p₀ out₀ k out p

@@ -1,11 +1,11 @@
--- `source_block::sine_block` meets its contract. Assumes nothing.
+-- `osc_block::sine_block` meets its contract. Assumes nothing.
 use mathlib.Core.Path.{ap, _∙_}
 use mathlib.Core.List.{map}
 use Rattle.dsp.specs.Math.{sine}
 use borrow.Author.Needs.{needs}
-use Rattle.source_block.proofs.Passes.{after-sine, given-sine}
-use Rattle.source_block.proofs.sine_block.Statement.{statement}
-use Rattle.source_block.proofs.sine_block.Tie as tie
+use Rattle.osc_block.proofs.Passes.{after-sine, given-sine}
+use Rattle.osc_block.proofs.sine_block.Statement.{statement}
+use Rattle.osc_block.proofs.sine_block.Tie as tie
 
 returns : tie.Need-returns
 returns c =

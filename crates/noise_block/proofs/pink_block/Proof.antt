@@ -1,4 +1,4 @@
--- `source_block::pink_block` meets its contract. Assumes nothing.
+-- `noise_block::pink_block` meets its contract. Assumes nothing.
 use mathlib.Core.Path.{_≡_, ap}
 use Prim.Native.Nat.{_-_, _<_, _≤_}
 use native.Mathlib.Omega.{arith}
@@ -7,9 +7,9 @@ use lib.Ieee.{nan}
 use borrow.Author.Needs.{needs}
 use Rattle.block.specs.Loop.{Going, going-start, going-turn, going-end}
 use Rattle.source.specs.declared.PinkOut.{PinkOut}
-use Rattle.source_block.specs.Steps.{pinkState, pinkNext, pinkStep}
-use Rattle.source_block.proofs.pink_block.Statement.{statement}
-use Rattle.source_block.proofs.pink_block.Tie as tie
+use Rattle.noise_block.specs.Steps.{pinkState, pinkNext, pinkStep}
+use Rattle.noise_block.proofs.pink_block.Statement.{statement}
+use Rattle.noise_block.proofs.pink_block.Tie as tie
 
 abbrev Inv-loop : tie.InvT-loop
 Inv-loop out₀ word w₀ b₀ k₀ out w b k = Going nan pinkStep (pinkState word b₀) out₀ k out (pinkState w b)
