@@ -9,13 +9,13 @@ use Rattle.block.specs.Iterate.{at}
 use Rattle.float.specs.Single.{one}
 use Rattle.control.specs.declared.Controls.{Controls}
 use Rattle.value.specs.declared.Rand.{Rand}
-use Rattle.source_block.specs.declared.Triangle.{Triangle}
-use Rattle.source_block.specs.declared.Fm.{Fm}
-use Rattle.source_block.specs.declared.Pink.{Pink}
-use Rattle.source_block.specs.declared.Brown.{Brown}
-use Rattle.source_block.specs.declared.Dust.{Dust}
-use Rattle.proc.specs.declared.Filter.{Filter}
-use Rattle.proc.specs.declared.Drive.{Drive}
+use Rattle.osc_block.specs.declared.Triangle.{Triangle}
+use Rattle.osc_block.specs.declared.Fm.{Fm}
+use Rattle.noise_block.specs.declared.Pink.{Pink}
+use Rattle.noise_block.specs.declared.Brown.{Brown}
+use Rattle.noise_block.specs.declared.Dust.{Dust}
+use Rattle.filter_step.specs.declared.Filter.{Filter}
+use Rattle.drive_step.specs.declared.Drive.{Drive}
 use Rattle.biquad.specs.declared.FilterKind.{FilterKind}
 
 abbrev pub wordAt : List ℕ → ℕ

@@ -43,11 +43,11 @@ fn filter_kind(n: u8, db: f32) -> biquad::FilterKind
     biquad::FilterKind::HighShelf(db)
 }
 
-fn load_filter(cells: &[f32]) -> proc::Filter
+fn load_filter(cells: &[f32]) -> filter_step::Filter
     requires { ⌜ 11 ≤ length (now cells) ⌝ }
     ensures { λ r. ⌜ r ≡ filterAt (now (cells .entry)) ⌝ }
 {
-    proc::Filter {
+    filter_step::Filter {
         scale: cells[0],
         prev_f: cells[1],
         b0: cells[2],
@@ -63,7 +63,7 @@ fn load_filter(cells: &[f32]) -> proc::Filter
 }
 
 // All but the scale, which no block changes.
-fn store_filter(cells: &mut [f32], s: proc::Filter)
+fn store_filter(cells: &mut [f32], s: filter_step::Filter)
     requires { ⌜ 11 ≤ length (now cells) ⌝ }
     ensures { λ v. ⌜ length (now (cells .exit)) ≡ length (now (cells .entry)) ⌝ }
 {
@@ -101,7 +101,7 @@ pub extern "C" fn block_drive(
     requires { ⌜ (length (now out) ≤ length (now amount)) × (4 ≤ length (now cells)) × (length (now out) ≤ length (now buf)) ⌝ }
     ensures { λ v. ⌜ now (out .exit) ≡ given (driveStepAt (now (out .entry)) (now (amount .entry)) (driveShapeOf shape)) (driveAt (now (cells .entry))) (length (now (out .entry))) ⌝ }
 {
-    let s = proc::Drive {
+    let s = drive_step::Drive {
         x_prev: cells[0],
         f_prev: cells[1],
         dc_x: cells[2],

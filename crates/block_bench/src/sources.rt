@@ -1,9 +1,11 @@
-// The sources of `source_block`, and Super of `super_block`.
+// The sources of `osc_block`, `noise_block` and `source_block`, and Super of `super_block`.
 ghost use mathlib.Core.Path.{_≡_};
 ghost use Prim.Native.Nat.{_+_, _*_, _^_, _≤_, _<_};
 ghost use lib.ListN.{length};
 ghost use Rattle.block.specs.Iterate.{given, at};
-ghost use Rattle.source_block.specs.Steps.{sineStep, squareStep, sawStep, triangleStep, fmStep, whiteStep, pinkStep, brownStep, dustStep, impactStep, envStep};
+ghost use Rattle.osc_block.specs.Steps.{sineStep, squareStep, sawStep, triangleStep, fmStep};
+ghost use Rattle.noise_block.specs.Steps.{whiteStep, pinkStep, brownStep, dustStep};
+ghost use Rattle.source_block.specs.Steps.{impactStep, envStep};
 ghost use Rattle.super_block.specs.Super.{superStep};
 ghost use Rattle.dsl.specs.Options.{superWaveOf};
 ghost use Rattle.block_bench.specs.State.{wordAt, triangleAt, fmAt, pinkAt, brownAt, dustAt};
@@ -13,7 +15,7 @@ pub extern "C" fn block_sine(out: &mut [f32], f: &[f32], pitch: &[f32], cells: &
     requires { ⌜ (length (now out) ≤ length (now f)) × (length (now out) ≤ length (now pitch)) × (1 ≤ length (now cells)) ⌝ }
     ensures { λ v. ⌜ now (out .exit) ≡ given (sineStep (now (f .entry)) (now (pitch .entry)) srf) (at (now (cells .entry)) 0) (length (now (out .entry))) ⌝ }
 {
-    cells[0] = source_block::sine_block(out, f, pitch, srf, cells[0]);
+    cells[0] = osc_block::sine_block(out, f, pitch, srf, cells[0]);
 }
 
 #[no_mangle]
@@ -28,7 +30,7 @@ pub extern "C" fn block_square(
     requires { ⌜ (length (now out) ≤ length (now f)) × (length (now out) ≤ length (now duty)) × (length (now out) ≤ length (now pitch)) × (1 ≤ length (now cells)) ⌝ }
     ensures { λ v. ⌜ now (out .exit) ≡ given (squareStep (now (f .entry)) (now (duty .entry)) (now (pitch .entry)) srf) (at (now (cells .entry)) 0) (length (now (out .entry))) ⌝ }
 {
-    cells[0] = source_block::square_block(out, f, duty, pitch, srf, cells[0]);
+    cells[0] = osc_block::square_block(out, f, duty, pitch, srf, cells[0]);
 }
 
 #[no_mangle]
@@ -36,7 +38,7 @@ pub extern "C" fn block_saw(out: &mut [f32], f: &[f32], pitch: &[f32], cells: &m
     requires { ⌜ (length (now out) ≤ length (now f)) × (length (now out) ≤ length (now pitch)) × (1 ≤ length (now cells)) ⌝ }
     ensures { λ v. ⌜ now (out .exit) ≡ given (sawStep (now (f .entry)) (now (pitch .entry)) srf) (at (now (cells .entry)) 0) (length (now (out .entry))) ⌝ }
 {
-    cells[0] = source_block::saw_block(out, f, pitch, srf, cells[0]);
+    cells[0] = osc_block::saw_block(out, f, pitch, srf, cells[0]);
 }
 
 #[no_mangle]
@@ -50,11 +52,11 @@ pub extern "C" fn block_triangle(
     requires { ⌜ (length (now out) ≤ length (now f)) × (length (now out) ≤ length (now pitch)) × (2 ≤ length (now cells)) ⌝ }
     ensures { λ v. ⌜ now (out .exit) ≡ given (triangleStep (now (f .entry)) (now (pitch .entry)) srf) (triangleAt (now (cells .entry))) (length (now (out .entry))) ⌝ }
 {
-    let s = source_block::Triangle {
+    let s = osc_block::Triangle {
         phase: cells[0],
         tri: cells[1],
     };
-    let r = source_block::triangle_block(out, f, pitch, srf, s);
+    let r = osc_block::triangle_block(out, f, pitch, srf, s);
     cells[0] = r.phase;
     cells[1] = r.tri;
 }
@@ -72,11 +74,11 @@ pub extern "C" fn block_fm(
     requires { ⌜ (length (now out) ≤ length (now f)) × (length (now out) ≤ length (now index)) × (length (now out) ≤ length (now pitch)) × (2 ≤ length (now cells)) ⌝ }
     ensures { λ v. ⌜ now (out .exit) ≡ given (fmStep (now (f .entry)) (now (index .entry)) (now (pitch .entry)) ratio srf) (fmAt (now (cells .entry))) (length (now (out .entry))) ⌝ }
 {
-    let s = source_block::Fm {
+    let s = osc_block::Fm {
         cph: cells[0],
         mph: cells[1],
     };
-    let r = source_block::fm_block(out, f, index, pitch, ratio, srf, s);
+    let r = osc_block::fm_block(out, f, index, pitch, ratio, srf, s);
     cells[0] = r.cph;
     cells[1] = r.mph;
 }
@@ -103,7 +105,7 @@ pub extern "C" fn block_white(out: &mut [f32], words: &mut [u64])
     requires { ⌜ 1 ≤ length (now words) ⌝ }
     ensures { λ v. ⌜ now (out .exit) ≡ given whiteStep (wordAt (now (words .entry))) (length (now (out .entry))) ⌝ }
 {
-    words[0] = source_block::white_block(out, words[0]);
+    words[0] = noise_block::white_block(out, words[0]);
 }
 
 #[no_mangle]
@@ -120,7 +122,7 @@ pub extern "C" fn block_pink(out: &mut [f32], cells: &mut [f32], words: &mut [u6
         cells[5],
         cells[6],
     ];
-    let r = source_block::pink_block(out, words[0], source::Poles { b });
+    let r = noise_block::pink_block(out, words[0], source::Poles { b });
     words[0] = r.word;
     let poles = r.poles;
     let c = poles.b;
@@ -133,11 +135,11 @@ pub extern "C" fn block_brown(out: &mut [f32], cells: &mut [f32], words: &mut [u
     requires { ⌜ (1 ≤ length (now cells)) × (1 ≤ length (now words)) ⌝ }
     ensures { λ v. ⌜ now (out .exit) ≡ given brownStep (brownAt (now (cells .entry)) (now (words .entry))) (length (now (out .entry))) ⌝ }
 {
-    let s = source_block::Brown {
+    let s = noise_block::Brown {
         word: words[0],
         last: cells[0],
     };
-    let r = source_block::brown_block(out, s);
+    let r = noise_block::brown_block(out, s);
     words[0] = r.word;
     cells[0] = r.last;
 }
@@ -153,11 +155,11 @@ pub extern "C" fn block_dust(
     requires { ⌜ (1 ≤ length (now cells)) × (1 ≤ length (now words)) ⌝ }
     ensures { λ v. ⌜ now (out .exit) ≡ given (dustStep chance decay) (dustAt (now (cells .entry)) (now (words .entry))) (length (now (out .entry))) ⌝ }
 {
-    let s = source_block::Dust {
+    let s = noise_block::Dust {
         word: words[0],
         y: cells[0],
     };
-    let r = source_block::dust_block(out, chance, decay, s);
+    let r = noise_block::dust_block(out, chance, decay, s);
     words[0] = r.word;
     cells[0] = r.y;
 }

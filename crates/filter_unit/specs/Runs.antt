@@ -9,8 +9,8 @@ use Rattle.block.specs.Iterate.{at, given, after}
 use Rattle.control.specs.declared.Controls.{Controls}
 use Rattle.dsl.specs.declared.DriveShape.{DriveShape}
 use Rattle.biquad.specs.declared.FilterKind.{FilterKind}
-use Rattle.proc.specs.declared.Filter.{Filter}
-use Rattle.proc.specs.declared.Drive.{Drive}
+use Rattle.filter_step.specs.declared.Filter.{Filter}
+use Rattle.drive_step.specs.declared.Drive.{Drive}
 use Rattle.proc_block.specs.Steps.{filterStep, driveStepAt, drivePlainStep, compressStep}
 use Rattle.unit.specs.Processors.{filterUnit, filterIn, filterCells, antialiasedUnit, driveIn, driveCells, plainUnit, compressUnit}
 use Rattle.unit.specs.Block.{Ran, ran-part, ran-stateless}

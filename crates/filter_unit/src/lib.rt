@@ -10,11 +10,11 @@ ghost use Rattle.sheet.specs.Record.{optionOf, numberOf};
 ghost use Rattle.unit.specs.Processors.{filterIn, filterCells, filterUnit, filterKindOf, filterQ, driveIn, driveCells, driveUnit, compressUnit};
 ghost use Rattle.unit.specs.Block.{Ran};
 
-fn load_filter(cells: &[f32]) -> proc::Filter
+fn load_filter(cells: &[f32]) -> filter_step::Filter
     requires { ⌜ length (now cells) ≡ 11 ⌝ }
     ensures { λ s. ⌜ s ≡ filterIn (now (cells .entry)) ⌝ }
 {
-    proc::Filter {
+    filter_step::Filter {
         scale: cells[0],
         prev_f: cells[1],
         b0: cells[2],
@@ -29,7 +29,7 @@ fn load_filter(cells: &[f32]) -> proc::Filter
     }
 }
 
-fn store_filter(cells: &mut [f32], s: proc::Filter)
+fn store_filter(cells: &mut [f32], s: filter_step::Filter)
     requires { ⌜ length (now cells) ≡ 11 ⌝ }
     ensures { λ v. ⌜ now (cells .exit) ≡ filterCells s ⌝ }
 {
@@ -57,11 +57,11 @@ pub fn filter(r: &[u8], sr: u32, kind: u8, out: &mut [f32], v: &[f32], cells: &m
     store_filter(cells, t);
 }
 
-fn load_drive(cells: &[f32]) -> proc::Drive
+fn load_drive(cells: &[f32]) -> drive_step::Drive
     requires { ⌜ length (now cells) ≡ 4 ⌝ }
     ensures { λ s. ⌜ s ≡ driveIn (now (cells .entry)) ⌝ }
 {
-    proc::Drive {
+    drive_step::Drive {
         x_prev: cells[0],
         f_prev: cells[1],
         dc_x: cells[2],
@@ -69,7 +69,7 @@ fn load_drive(cells: &[f32]) -> proc::Drive
     }
 }
 
-fn store_drive(cells: &mut [f32], s: proc::Drive)
+fn store_drive(cells: &mut [f32], s: drive_step::Drive)
     requires { ⌜ length (now cells) ≡ 4 ⌝ }
     ensures { λ v. ⌜ now (cells .exit) ≡ driveCells s ⌝ }
 {

@@ -5,32 +5,32 @@ use crate::words::of_single;
 use crate::words::single;
 use crate::words::whole;
 
-fn drawn(which: u8, d: dsp::Drawn) -> u64 {
+fn drawn(which: u8, d: rng::Drawn) -> u64 {
     if which > 0 {
         return half(which - 1, d.state);
     }
     of_single(d.x)
 }
 
-fn word_of(which: u8, w: dsp::Word) -> u64 {
+fn word_of(which: u8, w: rng::Word) -> u64 {
     if which == 0 { w.state } else { w.word }
 }
 
 fn generator(place: u8, which: u8, x: [u64; 20]) -> u64 {
     match place {
-        0 => dsp::splitmix_mix(x[0]),
-        1 => word_of(which, dsp::next_u64(x[0])),
-        2 => drawn(which, dsp::unit(whole(x[0], x[1]))),
-        3 => drawn(which, dsp::bi(whole(x[0], x[1]))),
+        0 => rng::splitmix_mix(x[0]),
+        1 => word_of(which, rng::next_u64(x[0])),
+        2 => drawn(which, rng::unit(whole(x[0], x[1]))),
+        3 => drawn(which, rng::bi(whole(x[0], x[1]))),
         4 => drawn(
             which,
-            dsp::range(whole(x[0], x[1]), single(x[2]), single(x[3])),
+            rng::range(whole(x[0], x[1]), single(x[2]), single(x[3])),
         ),
-        5 => dsp::node_path(x[0], x[1]),
-        6 => dsp::node_seed(x[0]),
+        5 => rng::node_path(x[0], x[1]),
+        6 => rng::node_seed(x[0]),
         _ => half(
             which,
-            dsp::rand_seed(whole(x[0], x[1]), low(x[2]), low(x[3]), low(x[4])),
+            rng::rand_seed(whole(x[0], x[1]), low(x[2]), low(x[3]), low(x[4])),
         ),
     }
 }
@@ -48,7 +48,7 @@ fn resonator(which: u8, m: dsp::Resonator) -> f32 {
 }
 
 fn envelope(x: [u64; 20]) -> f32 {
-    dsp::adsr_env(
+    envelope::adsr_env(
         single(x[0]),
         single(x[1]),
         single(x[2]),

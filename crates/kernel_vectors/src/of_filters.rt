@@ -37,8 +37,8 @@ pub fn coefficient(which: u8, x: [u64; 20]) -> u64
     ))
 }
 
-fn cells(x: [u64; 20]) -> proc::Filter {
-    proc::Filter {
+fn cells(x: [u64; 20]) -> filter_step::Filter {
+    filter_step::Filter {
         scale: single(x[5]),
         prev_f: single(x[6]),
         b0: single(x[7]),
@@ -53,7 +53,7 @@ fn cells(x: [u64; 20]) -> proc::Filter {
     }
 }
 
-fn cell(which: u8, s: proc::Filter) -> f32 {
+fn cell(which: u8, s: filter_step::Filter) -> f32 {
     match which {
         1 => s.scale,
         2 => s.prev_f,
@@ -73,7 +73,7 @@ pub fn step(which: u8, x: [u64; 20]) -> u64
     ensures { λ r. ⌜ r < 2 ^ 64 ⌝ }
 {
     let kind = kind_of(x[0], single(x[1]));
-    let f = proc::filter_step(
+    let f = filter_step::filter_step(
         kind,
         single(x[2]),
         low(x[3]),

@@ -7,11 +7,11 @@ use crate::words::of_single;
 use crate::words::single;
 use crate::words::whole;
 
-fn comb(which: u8, c: proc::CombOut) -> f32 {
+fn comb(which: u8, c: line_step::CombOut) -> f32 {
     if which == 0 { c.store } else { c.line }
 }
 
-fn allpass(which: u8, a: proc::AllpassOut) -> f32 {
+fn allpass(which: u8, a: line_step::AllpassOut) -> f32 {
     if which == 0 { a.out } else { a.line }
 }
 
@@ -37,13 +37,13 @@ fn mode_step(which: u8, x: [u64; 20]) -> f32 {
 }
 
 fn drive_step(which: u8, x: [u64; 20]) -> f32 {
-    let s = proc::Drive {
+    let s = drive_step::Drive {
         x_prev: single(x[2]),
         f_prev: single(x[3]),
         dc_x: single(x[4]),
         dc_y: single(x[5]),
     };
-    let r = proc::drive_step(
+    let r = drive_step::drive_step(
         dsl::drive_shape_of(choice(x[0])),
         single(x[1]),
         s,
@@ -60,7 +60,7 @@ fn drive_step(which: u8, x: [u64; 20]) -> f32 {
 }
 
 fn chorus_read(which: u8, x: [u64; 20]) -> u64 {
-    let r = proc::chorus_read(
+    let r = line_step::chorus_read(
         single(x[0]),
         single(x[1]),
         single(x[2]),
@@ -91,7 +91,7 @@ fn compress(which: u8, x: [u64; 20]) -> f32 {
 
 fn next_place(w: u64, n: u64) -> u64 {
     let len = length(n);
-    proc::next_place(below(w, len), len)
+    line_step::next_place(below(w, len), len)
 }
 
 fn float_of(place: u8, which: u8, x: [u64; 20]) -> f32 {
@@ -101,15 +101,15 @@ fn float_of(place: u8, which: u8, x: [u64; 20]) -> f32 {
     let d = single(x[3]);
     match place {
         0 => proc::gain(a, b),
-        2 => proc::delay(a, b, c),
-        4 => comb(which, proc::comb(a, b, c, d)),
-        5 => allpass(which, proc::allpass(a, b)),
-        6 => proc::reverb_mix(a, b, c),
+        2 => line_step::delay(a, b, c),
+        4 => comb(which, line_step::comb(a, b, c, d)),
+        5 => allpass(which, line_step::allpass(a, b)),
+        6 => line_step::reverb_mix(a, b, c),
         7 => mode_step(which, x),
         8 => drive_step(which, x),
-        9 => proc::drive_plain(dsl::drive_shape_of(choice(x[0])), b, c),
+        9 => drive_step::drive_plain(dsl::drive_shape_of(choice(x[0])), b, c),
         10 => proc::tremolo(a, b, c, whole(x[3], x[4]), single(x[5])),
-        12 => proc::chorus(a, b, c, d, single(x[4])),
+        12 => line_step::chorus(a, b, c, d, single(x[4])),
         _ => compress(which, x),
     }
 }

@@ -4,8 +4,8 @@ use Prim.Native.Nat.{ℕ, _+_}
 use lib.ListN.{set}
 use lib.Ieee.{Float}
 use Rattle.block.specs.Iterate.{at}
-use Rattle.proc.specs.declared.ChorusRead.{ChorusRead}
-use Rattle.proc.specs.Effects.{delayOf, nextPlace, chorusPlace, chorusRead, chorusOf}
+use Rattle.line_step.specs.declared.ChorusRead.{ChorusRead}
+use Rattle.line_step.specs.Line.{delayOf, nextPlace, chorusPlace, chorusRead, chorusOf}
 
 unfoldable pub delayStep : List Float → Float → ℕ → ℕ → List Float × ℕ → Float × (List Float × ℕ)
 delayStep xs feedback len k s =

@@ -12,10 +12,10 @@ pub fn delay_block(out: &mut [f32], line: &mut [f32], feedback: f32, place: u64)
     let mut w = place;
     let mut k: usize = 0;
     while k < out.len() {
-        let y = proc::delay(feedback, out[k], line[w as usize]);
+        let y = line_step::delay(feedback, out[k], line[w as usize]);
         line[w as usize] = y;
         out[k] = y;
-        w = proc::next_place(w, line.len() as u64);
+        w = line_step::next_place(w, line.len() as u64);
         k += 1;
     }
     w
@@ -41,9 +41,9 @@ fn chorus_by(
     while k < out.len() {
         let x = out[k];
         line[w as usize] = x;
-        let r = proc::chorus_place(base, swing, sines[k], len, w);
-        out[k] = proc::chorus(mix, r.frac, x, line[r.i0 as usize], line[r.i1 as usize]);
-        w = proc::next_place(w, len);
+        let r = line_step::chorus_place(base, swing, sines[k], len, w);
+        out[k] = line_step::chorus(mix, r.frac, x, line[r.i0 as usize], line[r.i1 as usize]);
+        w = line_step::next_place(w, len);
         k += 1;
     }
     w

@@ -7,7 +7,7 @@ use lib.Ieee.{Float}
 use Rattle.tree.specs.Block.{tab}
 use Rattle.block.specs.Iterate.{at, given, after, part-while, word}
 use Rattle.control.specs.declared.Controls.{Controls}
-use Rattle.proc.specs.Effects.{delayOf, nextPlace, chorusRead, chorusOf}
+use Rattle.line_step.specs.Line.{delayOf, nextPlace, chorusRead, chorusOf}
 use Rattle.line_block.specs.Steps.{delayStep, chorusStep}
 use Rattle.lines.specs.Lines.{reverbLines}
 use Rattle.reverb_block.specs.Reverb.{reverbOf, reverbStep}

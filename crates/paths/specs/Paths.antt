@@ -10,7 +10,7 @@ use borrow.Author.Tests.{eq-eqb, ne-eqb}
 use lib.Dec.{eqb}
 use lib.ListN.{length, getD, set, length-set}
 use lib.Seq.{getD-set-same, getD-set-other}
-use Rattle.dsp.specs.Random.{pathOf as childPath}
+use Rattle.rng.specs.Random.{pathOf as childPath}
 use Rattle.sheet.specs.Record.{countOf, pathOf, first, next}
 use Rattle.layout.specs.Built.{linker, owner}
 use Rattle.layout.specs.Good.{Good, good}

@@ -33,7 +33,7 @@ fn down(sheet: &[u8], count: usize, owned: &[usize], placed: &[u64], to: &mut [u
     let mut j = 1usize;
     while j < count {
         let o = owned[j];
-        let w = dsp::node_path(to[o], placed[j]);
+        let w = rng::node_path(to[o], placed[j]);
         to[j] = w;
         j += 1;
     }

@@ -11,9 +11,10 @@ use Rattle.dsl.specs.declared.DriveShape.the-variants.{Tanh}
 use Rattle.dsp.specs.Map.{map-tab}
 use Rattle.dsp.specs.Math.{sine}
 use Rattle.drive.specs.Drive.{lnCosh, antiderivativeOf}
-use Rattle.proc.specs.declared.Drive.{Drive}
-use Rattle.proc.specs.declared.DriveOut.{DriveOut}
-use Rattle.proc.specs.Effects.{driven, driveBy, driveStep, tremoloBy, tremoloOf, compressGain, compressOf}
+use Rattle.drive_step.specs.declared.Drive.{Drive}
+use Rattle.drive_step.specs.declared.DriveOut.{DriveOut}
+use Rattle.drive_step.specs.Drive.{driven, driveBy, driveStep}
+use Rattle.proc.specs.Effects.{tremoloBy, tremoloOf, compressGain, compressOf}
 use Rattle.proc_block.specs.Steps.{drivenStep, decayStep, lnCoshStep, driveByStep, driveStepAt, lfoStep, angleStep, tremoloStep, tremoloByStep, compressStep, levelStep, levelGainStep}
 
 module _ (xs : List Float) (attack release threshold ratio makeup env : Float) where

@@ -6,9 +6,11 @@ use Rattle.block.specs.Iterate.{at}
 use Rattle.dsl.specs.declared.DriveShape.{DriveShape}
 use Rattle.biquad.specs.declared.FilterKind.{FilterKind}
 use Rattle.drive.specs.Drive.{decayOf, lnCosh}
-use Rattle.proc.specs.declared.Filter.{Filter}
-use Rattle.proc.specs.declared.Drive.{Drive}
-use Rattle.proc.specs.Effects.{gainOf, filterOf, driven, driveBy, driveStep, drivePlain, lfoAngle, lfoAt, tremoloBy, tremoloOf, compressLevel, compressGain, compressOf}
+use Rattle.filter_step.specs.declared.Filter.{Filter}
+use Rattle.drive_step.specs.declared.Drive.{Drive}
+use Rattle.proc.specs.Effects.{gainOf, lfoAngle, lfoAt, tremoloBy, tremoloOf, compressLevel, compressGain, compressOf}
+use Rattle.filter_step.specs.Filter.{filterOf}
+use Rattle.drive_step.specs.Drive.{driven, driveBy, driveStep, drivePlain}
 
 unfoldable pub gainStep : List Float → List Float → ℕ → Unit {0} → Float × Unit {0}
 gainStep xs amount k s = (gainOf (at amount k) (at xs k), s)

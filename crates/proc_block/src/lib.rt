@@ -26,15 +26,15 @@ pub fn filter_block(
     kind: biquad::FilterKind,
     q: f32,
     sr: u32,
-    s: proc::Filter,
-) -> proc::Filter
+    s: filter_step::Filter,
+) -> filter_step::Filter
     requires { ⌜ (length (now out) ≤ length (now cutoff)) ⌝ }
     ensures { λ v. ⌜ (now (out .exit) ≡ given (filterStep (now (out .entry)) (now (cutoff .entry)) kind q sr) s (length (now (out .entry)))) × (v ≡ after (filterStep (now (out .entry)) (now (cutoff .entry)) kind q sr) s (length (now (out .entry)))) ⌝ }
 {
     let mut p = s;
     let mut k: usize = 0;
     while k < out.len() {
-        let r = proc::filter_step(kind, q, sr, cutoff[k], p, out[k]);
+        let r = filter_step::filter_step(kind, q, sr, cutoff[k], p, out[k]);
         out[k] = r.out;
         p = r.filter;
         k += 1;
@@ -51,7 +51,7 @@ fn drive_amplified(out: &mut [f32], amount: &[f32])
 {
     let mut k: usize = 0;
     while k < out.len() {
-        out[k] = proc::amplified(amount[k], out[k]);
+        out[k] = drive_step::amplified(amount[k], out[k]);
         k += 1;
     }
 }
@@ -119,15 +119,15 @@ fn drive_ln_coshes(fs: &mut [f32], xs: &[f32])
 }
 
 // From the amplified samples, in out, and their antiderivatives. tanh is 0 at 0.
-fn drive_averages(out: &mut [f32], fs: &[f32], s: proc::Drive) -> proc::Drive
+fn drive_averages(out: &mut [f32], fs: &[f32], s: drive_step::Drive) -> drive_step::Drive
     requires { ⌜ (length (now out) ≤ length (now fs)) ⌝ }
     ensures { λ v. ⌜ (now (out .exit) ≡ given (driveByStep (now (out .entry)) (now (fs .entry)) Tanh) s (length (now (out .entry)))) × (v ≡ after (driveByStep (now (out .entry)) (now (fs .entry)) Tanh) s (length (now (out .entry)))) ⌝ }
 {
     let mut p = s;
-    let mut h = proc::Curved { x: 0.0, y: 0.0 };
+    let mut h = drive_step::Curved { x: 0.0, y: 0.0 };
     let mut k: usize = 0;
     while k < out.len() {
-        let r = proc::drive_after(dsl::DriveShape::Tanh, out[k], fs[k], p, h);
+        let r = drive_step::drive_after(dsl::DriveShape::Tanh, out[k], fs[k], p, h);
         let step = r.step;
         out[k] = step.out;
         p = step.drive;
@@ -137,7 +137,12 @@ fn drive_averages(out: &mut [f32], fs: &[f32], s: proc::Drive) -> proc::Drive
     p
 }
 
-fn drive_tanh(out: &mut [f32], fs: &mut [f32], amount: &[f32], s: proc::Drive) -> proc::Drive
+fn drive_tanh(
+    out: &mut [f32],
+    fs: &mut [f32],
+    amount: &[f32],
+    s: drive_step::Drive,
+) -> drive_step::Drive
     requires { ⌜ (length (now out) ≤ length (now amount)) × (length (now fs) ≡ length (now out)) ⌝ }
     ensures { λ v. ⌜ (now (out .exit) ≡ given (driveStepAt (now (out .entry)) (now (amount .entry)) Tanh) s (length (now (out .entry)))) × (v ≡ after (driveStepAt (now (out .entry)) (now (amount .entry)) Tanh) s (length (now (out .entry)))) ⌝ }
 {
@@ -152,15 +157,15 @@ fn drive_steps(
     out: &mut [f32],
     amount: &[f32],
     shape: dsl::DriveShape,
-    s: proc::Drive,
-) -> proc::Drive
+    s: drive_step::Drive,
+) -> drive_step::Drive
     requires { ⌜ (length (now out) ≤ length (now amount)) ⌝ }
     ensures { λ v. ⌜ (now (out .exit) ≡ given (driveStepAt (now (out .entry)) (now (amount .entry)) shape) s (length (now (out .entry)))) × (v ≡ after (driveStepAt (now (out .entry)) (now (amount .entry)) shape) s (length (now (out .entry)))) ⌝ }
 {
     let mut p = s;
     let mut k: usize = 0;
     while k < out.len() {
-        let r = proc::drive_step(shape, amount[k], p, out[k]);
+        let r = drive_step::drive_step(shape, amount[k], p, out[k]);
         out[k] = r.out;
         p = r.drive;
         k += 1;
@@ -173,8 +178,8 @@ pub fn drive_block(
     buf: &mut [f32],
     amount: &[f32],
     shape: dsl::DriveShape,
-    s: proc::Drive,
-) -> proc::Drive
+    s: drive_step::Drive,
+) -> drive_step::Drive
     requires { ⌜ (length (now out) ≤ length (now amount)) × (length (now out) ≤ length (now buf)) ⌝ }
     ensures { λ v. ⌜ (now (out .exit) ≡ given (driveStepAt (now (out .entry)) (now (amount .entry)) shape) s (length (now (out .entry)))) × (v ≡ after (driveStepAt (now (out .entry)) (now (amount .entry)) shape) s (length (now (out .entry)))) ⌝ }
 {
@@ -193,7 +198,7 @@ pub fn drive_plain_block(out: &mut [f32], amount: &[f32], shape: dsl::DriveShape
 {
     let mut k: usize = 0;
     while k < out.len() {
-        out[k] = proc::drive_plain(shape, amount[k], out[k]);
+        out[k] = drive_step::drive_plain(shape, amount[k], out[k]);
         k += 1;
     }
 }

@@ -11,9 +11,9 @@ use lib.Seq.{getD-set-same, getD-set-other, getD-append-add, set-append-left, ta
 use lib.Ieee.{Float, nan}
 use Rattle.float.specs.Single.{_⊕_}
 use Rattle.block.specs.Iterate.{at, word}
-use Rattle.proc.specs.declared.CombOut.{CombOut}
-use Rattle.proc.specs.declared.AllpassOut.{AllpassOut}
-use Rattle.proc.specs.Effects.{nextPlace, combOf, allpassOf}
+use Rattle.line_step.specs.declared.CombOut.{CombOut}
+use Rattle.line_step.specs.declared.AllpassOut.{AllpassOut}
+use Rattle.line_step.specs.Line.{nextPlace, combOf, allpassOf}
 use Rattle.reverb_block.specs.Reverb.{lineFrom, storeOf, combAt, allpassAt, Placed}
 
 -- ---- where the lines lie

@@ -8,7 +8,7 @@ use Rattle.float.specs.Single.{_⊕_}
 use Rattle.float.specs.Single as single
 use Rattle.block.specs.Bank.{units}
 use Rattle.block.specs.Iterate.{at, word}
-use Rattle.proc.specs.Effects.{nextPlace, combOf, allpassOf, reverbMix}
+use Rattle.line_step.specs.Line.{nextPlace, combOf, allpassOf, reverbMix}
 
 -- ten lines, six combs and then four allpasses, one after the other in the cells, then the combs' six stores; the
 -- registers are the ten places. lens are the lines' lengths.

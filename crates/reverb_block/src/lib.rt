@@ -27,10 +27,10 @@ fn combs(
         let place = places[k];
         let len = lens[k];
         let w = from + (place as usize);
-        let o = proc::comb(feedback, stores[k], x, lines[w]);
+        let o = line_step::comb(feedback, stores[k], x, lines[w]);
         lines[w] = o.line;
         stores[k] = o.store;
-        places[k] = proc::next_place(place, len);
+        places[k] = line_step::next_place(place, len);
         wet = wet + o.out;
         from = from + (len as usize);
         k += 1;
@@ -51,9 +51,9 @@ fn allpasses(lines: &mut [f32], places: &mut [u64], lens: &[u64], first: usize, 
         let place = places[i];
         let len = lens[i];
         let w = from + (place as usize);
-        let o = proc::allpass(wet, lines[w]);
+        let o = line_step::allpass(wet, lines[w]);
         lines[w] = o.line;
-        places[i] = proc::next_place(place, len);
+        places[i] = line_step::next_place(place, len);
         wet = o.out;
         from = from + (len as usize);
         k += 1;
@@ -94,7 +94,7 @@ fn reverb_lines(
         let x = out[k];
         let sum = combs(lines, stores, places, lens, feedback, x);
         let wet = allpasses(lines, places, lens, first, sum);
-        out[k] = proc::reverb_mix(mix, x, wet);
+        out[k] = line_step::reverb_mix(mix, x, wet);
         k += 1;
     }
 }

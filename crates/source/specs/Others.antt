@@ -10,9 +10,9 @@ use Rattle.float.specs.Whole.{roundOf}
 use Rattle.float.specs.Order.{clampOf}
 use Rattle.float.specs.Single.{_⊕_, _⊖_, _⊗_, _⊘_, zero, half, one, tau}
 use Rattle.dsp.specs.Math.{cosine}
-use Rattle.dsp.specs.Random.{stepped, unitOf, biOf}
+use Rattle.rng.specs.Random.{stepped, unitOf, biOf}
 use Rattle.dsp.specs.Coefficients.{onePoleOf}
-use Rattle.dsp.specs.Envelope.{adsrOf}
+use Rattle.envelope.specs.Envelope.{adsrOf}
 use Rattle.value.specs.Modulators.{secondsOf}
 use Rattle.source.specs.declared.Drawn.{Drawn}
 use Rattle.source.specs.declared.Poles.{Poles}

@@ -201,7 +201,7 @@ pub fn impact(w: u64, norm: f32, t: u64) -> f32
 pub fn env(a: f32, d: f32, s: f32, r: f32, punch: f32, srf: f32, rel_start: f32, t: u64) -> f32
     ensures { λ v. ⌜ v ≡ envOf a d s r punch srf «rel_start» t ⌝ }
 {
-    dsp::adsr_env(value::seconds(t, srf), a, d, s, r, punch, rel_start)
+    envelope::adsr_env(value::seconds(t, srf), a, d, s, r, punch, rel_start)
 }
 
 // ---- noises
@@ -209,7 +209,7 @@ pub fn env(a: f32, d: f32, s: f32, r: f32, punch: f32, srf: f32, rel_start: f32,
 pub fn white(word: u64) -> Drawn
     ensures { λ r. ⌜ r ≡ whiteOf word ⌝ }
 {
-    let d = dsp::bi(word);
+    let d = rng::bi(word);
     Drawn {
         out: d.x,
         word: d.state,
@@ -220,7 +220,7 @@ pub fn white(word: u64) -> Drawn
 pub fn pink(word: u64, poles: Poles) -> PinkOut
     ensures { λ r. ⌜ r ≡ pinkOf word poles ⌝ }
 {
-    let d = dsp::bi(word);
+    let d = rng::bi(word);
     let w = d.x;
     let b = poles.b;
     let b0 = 0.99886 * b[0] + w * 0.0555179;
@@ -255,7 +255,7 @@ fn bounded(x: f32) -> f32
 pub fn brown(word: u64, last: f32) -> BrownOut
     ensures { λ r. ⌜ r ≡ brownOf word last ⌝ }
 {
-    let d = dsp::bi(word);
+    let d = rng::bi(word);
     let l = (last + 0.02 * d.x) * 0.998;
     BrownOut {
         out: bounded(l * 8.0),
@@ -284,9 +284,9 @@ pub fn dust_decay(decay: f32, srf: f32) -> f32
 pub fn dust(word: u64, p: f32, g: f32, y: f32) -> DustOut
     ensures { λ r. ⌜ r ≡ dustOf word p g y ⌝ }
 {
-    let d = dsp::unit(word);
+    let d = rng::unit(word);
     if d.x < p {
-        let e = dsp::bi(d.state);
+        let e = rng::bi(d.state);
         let z = e.x + g * y;
         return DustOut {
             out: z,

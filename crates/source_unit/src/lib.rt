@@ -23,25 +23,25 @@ fn sine(out: &mut [f32], v: &[f32], pitch: &[f32], srf: f32, cells: &mut [f32])
     requires { ⌜ (length (now out) ≤ length (now v)) × (length (now out) ≤ length (now pitch)) × (length (now cells) ≡ 1) ⌝ }
     ensures { λ x. ⌜ RanPitched (sineUnit srf) (now (v .entry) ∷ []) (now (pitch .entry)) (now (out .entry)) (now (cells .entry)) (now (out .exit)) (now (cells .exit)) ⌝ }
 {
-    cells[0] = source_block::sine_block(out, v, pitch, srf, cells[0]);
+    cells[0] = osc_block::sine_block(out, v, pitch, srf, cells[0]);
 }
 
 fn saw(out: &mut [f32], v: &[f32], pitch: &[f32], srf: f32, cells: &mut [f32])
     requires { ⌜ (length (now out) ≤ length (now v)) × (length (now out) ≤ length (now pitch)) × (length (now cells) ≡ 1) ⌝ }
     ensures { λ x. ⌜ RanPitched (sawUnit srf) (now (v .entry) ∷ []) (now (pitch .entry)) (now (out .entry)) (now (cells .entry)) (now (out .exit)) (now (cells .exit)) ⌝ }
 {
-    cells[0] = source_block::saw_block(out, v, pitch, srf, cells[0]);
+    cells[0] = osc_block::saw_block(out, v, pitch, srf, cells[0]);
 }
 
 fn triangle(out: &mut [f32], v: &[f32], pitch: &[f32], srf: f32, cells: &mut [f32])
     requires { ⌜ (length (now out) ≤ length (now v)) × (length (now out) ≤ length (now pitch)) × (length (now cells) ≡ 2) ⌝ }
     ensures { λ x. ⌜ RanPitched (triangleUnit srf) (now (v .entry) ∷ []) (now (pitch .entry)) (now (out .entry)) (now (cells .entry)) (now (out .exit)) (now (cells .exit)) ⌝ }
 {
-    let s = source_block::Triangle {
+    let s = osc_block::Triangle {
         phase: cells[0],
         tri: cells[1],
     };
-    let r = source_block::triangle_block(out, v, pitch, srf, s);
+    let r = osc_block::triangle_block(out, v, pitch, srf, s);
     cells[0] = r.phase;
     cells[1] = r.tri;
 }
@@ -50,18 +50,18 @@ fn square(out: &mut [f32], v: &[f32], w: &[f32], pitch: &[f32], srf: f32, cells:
     requires { ⌜ (length (now out) ≤ length (now v)) × (length (now out) ≤ length (now w)) × (length (now out) ≤ length (now pitch)) × (length (now cells) ≡ 1) ⌝ }
     ensures { λ x. ⌜ RanPitched (squareUnit srf) (now (v .entry) ∷ now (w .entry) ∷ []) (now (pitch .entry)) (now (out .entry)) (now (cells .entry)) (now (out .exit)) (now (cells .exit)) ⌝ }
 {
-    cells[0] = source_block::square_block(out, v, w, pitch, srf, cells[0]);
+    cells[0] = osc_block::square_block(out, v, w, pitch, srf, cells[0]);
 }
 
 fn fm(out: &mut [f32], v: &[f32], w: &[f32], pitch: &[f32], ratio: f32, srf: f32, cells: &mut [f32])
     requires { ⌜ (length (now out) ≤ length (now v)) × (length (now out) ≤ length (now w)) × (length (now out) ≤ length (now pitch)) × (length (now cells) ≡ 2) ⌝ }
     ensures { λ x. ⌜ RanPitched (fmUnit ratio srf) (now (v .entry) ∷ now (w .entry) ∷ []) (now (pitch .entry)) (now (out .entry)) (now (cells .entry)) (now (out .exit)) (now (cells .exit)) ⌝ }
 {
-    let s = source_block::Fm {
+    let s = osc_block::Fm {
         cph: cells[0],
         mph: cells[1],
     };
-    let r = source_block::fm_block(out, v, w, pitch, ratio, srf, s);
+    let r = osc_block::fm_block(out, v, w, pitch, ratio, srf, s);
     cells[0] = r.cph;
     cells[1] = r.mph;
 }
@@ -111,7 +111,7 @@ fn white(out: &mut [f32], regs: &mut [u64])
     requires { ⌜ length (now regs) ≡ 1 ⌝ }
     ensures { λ x. ⌜ ((cs : List Float) → RanAlone whiteUnit (now (out .entry)) cs (now (regs .entry)) (now (out .exit)) cs (now (regs .exit))) ⌝ }
 {
-    regs[0] = source_block::white_block(out, regs[0]);
+    regs[0] = noise_block::white_block(out, regs[0]);
 }
 
 fn poles_of(cells: &[f32]) -> source::Poles
@@ -149,7 +149,7 @@ fn pink(out: &mut [f32], cells: &mut [f32], regs: &mut [u64])
     requires { ⌜ (length (now cells) ≡ 7) × (length (now regs) ≡ 1) ⌝ }
     ensures { λ x. ⌜ RanAlone pinkUnit (now (out .entry)) (now (cells .entry)) (now (regs .entry)) (now (out .exit)) (now (cells .exit)) (now (regs .exit)) ⌝ }
 {
-    let s = source_block::pink_block(out, regs[0], poles_of(cells));
+    let s = noise_block::pink_block(out, regs[0], poles_of(cells));
     regs[0] = s.word;
     store_poles(cells, s.poles);
 }
@@ -158,11 +158,11 @@ fn brown(out: &mut [f32], cells: &mut [f32], regs: &mut [u64])
     requires { ⌜ (length (now cells) ≡ 1) × (length (now regs) ≡ 1) ⌝ }
     ensures { λ x. ⌜ RanAlone brownUnit (now (out .entry)) (now (cells .entry)) (now (regs .entry)) (now (out .exit)) (now (cells .exit)) (now (regs .exit)) ⌝ }
 {
-    let s = source_block::Brown {
+    let s = noise_block::Brown {
         word: regs[0],
         last: cells[0],
     };
-    let r = source_block::brown_block(out, s);
+    let r = noise_block::brown_block(out, s);
     regs[0] = r.word;
     cells[0] = r.last;
 }
@@ -184,11 +184,11 @@ fn dust(out: &mut [f32], r: &[u8], srf: f32, cells: &mut [f32], regs: &mut [u64]
 {
     let chance = source::dust_chance(sheet::number(r, 0), srf);
     let decay = source::dust_decay(sheet::number(r, 1), srf);
-    let s = source_block::Dust {
+    let s = noise_block::Dust {
         word: regs[0],
         y: cells[0],
     };
-    let d = source_block::dust_block(out, chance, decay, s);
+    let d = noise_block::dust_block(out, chance, decay, s);
     regs[0] = d.word;
     cells[0] = d.y;
 }

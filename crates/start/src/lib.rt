@@ -3,7 +3,7 @@ ghost use mathlib.Core.Path.{_≡_};
 ghost use mathlib.Core.List.{[], _∷_};
 ghost use Prim.Native.Nat.{_+_, _*_, _≤_, _<_};
 ghost use lib.ListN.{length, replicate};
-ghost use Rattle.dsp.specs.Random.{stepped, seedOf};
+ghost use Rattle.rng.specs.Random.{stepped, seedOf};
 ghost use Rattle.sheet.specs.Record.{kind, first, next};
 ghost use Rattle.sheet.specs.Tree.{records, spine};
 ghost use Rattle.layout.specs.Built.{role, built};
@@ -90,7 +90,7 @@ fn seed_register(key: u64, own: &mut [u64])
     requires { ⌜ length (now own) ≡ 1 ⌝ }
     ensures { λ r. ⌜ now (own .exit) ≡ seedOf key ∷ [] ⌝ }
 {
-    own[0] = dsp::node_seed(key);
+    own[0] = rng::node_seed(key);
 }
 
 fn rand_register(r: &[u8], own: &mut [u64])

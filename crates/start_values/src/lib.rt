@@ -3,7 +3,7 @@ ghost use mathlib.Core.Path.{_≡_};
 ghost use Prim.Native.Nat.{_*_, _≤_};
 ghost use lib.ListN.{length};
 ghost use Rattle.tree.specs.Block.{tab};
-ghost use Rattle.dsp.specs.Random.{stepped, rangeOf};
+ghost use Rattle.rng.specs.Random.{stepped, rangeOf};
 ghost use Rattle.dsp.specs.Coefficients.{modalOf};
 ghost use Rattle.sheet.specs.Record.{numberOf};
 ghost use Rattle.layout.specs.Needs.{voicesOf};
@@ -110,7 +110,7 @@ pub fn rand_draws(r: &[u8]) -> Draws
     requires { ⌜ 40 ≤ length (now r) ⌝ }
     ensures { λ x. ⌜ x ≡ record { prev = rangeOf (randWord (now (r .entry))) (numberOf (now (r .entry)) 0) (numberOf (now (r .entry)) 1); next = rangeOf (stepped (randWord (now (r .entry)))) (numberOf (now (r .entry)) 0) (numberOf (now (r .entry)) 1); word = stepped (stepped (randWord (now (r .entry)))) } ⌝ }
 {
-    let seed = dsp::rand_seed(
+    let seed = rng::rand_seed(
         sheet::seed(r),
         sheet::bits(r, 0),
         sheet::bits(r, 1),
@@ -118,8 +118,8 @@ pub fn rand_draws(r: &[u8]) -> Draws
     );
     let from = sheet::number(r, 0);
     let to = sheet::number(r, 1);
-    let a = dsp::range(seed, from, to);
-    let b = dsp::range(a.state, from, to);
+    let a = rng::range(seed, from, to);
+    let b = rng::range(a.state, from, to);
     Draws {
         prev: a.x,
         next: b.x,

@@ -25,7 +25,7 @@ use Rattle.dsl.specs.declared.NoiseColor.the-variants.{Brown}
 use Rattle.dsl.specs.Options.{noiseColorOf}
 use Rattle.lines.specs.Lines.{delayLine, chorusBase, chorusSwing, chorusLine, tunedLine, reverbLines}
 use Rattle.dsp.specs.Coefficients.{feedbackOf}
-use Rattle.proc.specs.Effects.{nextPlace}
+use Rattle.line_step.specs.Line.{nextPlace}
 use Rattle.source.specs.Oscillators.{hertz}
 use Rattle.source.specs.Others.{pinkOf}
 use Rattle.value.specs.Modulators.{randIncrement}

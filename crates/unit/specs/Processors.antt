@@ -16,9 +16,12 @@ use Rattle.biquad.specs.declared.FilterKind.the-variants.{Low, High, Band, Notc
 use Rattle.sheet.specs.Record.{optionOf, numberOf}
 use Rattle.lines.specs.Lines.{chorusBase, chorusSwing, reverbLines}
 use Rattle.dsp.specs.Coefficients.{feedbackOf}
-use Rattle.proc.specs.declared.Filter.{Filter}
-use Rattle.proc.specs.declared.Drive.{Drive}
-use Rattle.proc.specs.Effects.{gainOf, filterOf, driveStep, drivePlain, tremoloOf, compressOf, delayOf, nextPlace, chorusRead, chorusOf}
+use Rattle.filter_step.specs.declared.Filter.{Filter}
+use Rattle.drive_step.specs.declared.Drive.{Drive}
+use Rattle.proc.specs.Effects.{gainOf, tremoloOf, compressOf}
+use Rattle.filter_step.specs.Filter.{filterOf}
+use Rattle.drive_step.specs.Drive.{driveStep, drivePlain}
+use Rattle.line_step.specs.Line.{delayOf, nextPlace, chorusRead, chorusOf}
 use Rattle.modal_block.specs.Modal.{modalOf}
 use Rattle.reverb_block.specs.Reverb.{reverbOf}
 use Rattle.unit.specs.Own.{Ugen, stateless}

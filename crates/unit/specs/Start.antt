@@ -10,7 +10,7 @@ use Rattle.float.specs.Single.{_⊕_, _⊖_, _⊗_, _⊘_, zero as zeroF, one, 
 use Rattle.tree.specs.Block.{tab}
 use Rattle.dsl.specs.Options.{driveShapeOf}
 use Rattle.dsp.specs.Math.{power}
-use Rattle.dsp.specs.Random.{stepped, rangeOf, pathOf as childPath, seedOf, randSeedOf}
+use Rattle.rng.specs.Random.{stepped, rangeOf, pathOf as childPath, seedOf, randSeedOf}
 use Rattle.dsp.specs.Coefficients.{followerOf, modalOf}
 use Rattle.dsp.specs.declared.Resonator.{Resonator}
 use Rattle.drive.specs.Drive.{antiderivativeOf}

@@ -9,9 +9,9 @@ use lib.Ieee.{Float, nan, binary32, lt, le, ofBits, ofInt, toUnsigned}
 use Rattle.float.specs.Whole.{fractOf}
 use Rattle.float.specs.Order.{maxOf, minOf, clampOf}
 use Rattle.float.specs.Single.{_⊕_, _⊖_, _⊗_, _⊘_, zero as zeroF, one, two, three}
-use Rattle.dsp.specs.Random.{stepped, rangeOf}
+use Rattle.rng.specs.Random.{stepped, rangeOf}
 use Rattle.dsp.specs.Math.{power}
-use Rattle.dsp.specs.Envelope.{adsrOf}
+use Rattle.envelope.specs.Envelope.{adsrOf}
 use Rattle.osc.specs.Osc.{oscOf}
 use Rattle.dsl.specs.declared.Shape.{Shape}
 use Rattle.dsl.specs.declared.Curve.{Curve}

@@ -168,7 +168,7 @@ pub fn env_mod(
     lerp(
         from,
         to,
-        dsp::adsr_env(seconds(t, srf), a, d, s, r, punch, rel_start),
+        envelope::adsr_env(seconds(t, srf), a, d, s, r, punch, rel_start),
     )
 }
 
@@ -198,7 +198,7 @@ pub fn rand_out(s: Rand) -> f32
 fn rand_turn(from: f32, to: f32, s: Rand) -> Rand
     ensures { λ r. ⌜ r ≡ randTurn from to s ⌝ }
 {
-    let d = dsp::range(s.word, from, to);
+    let d = rng::range(s.word, from, to);
     Rand {
         word: d.state,
         prev: s.next,

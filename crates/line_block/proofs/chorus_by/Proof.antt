@@ -7,8 +7,8 @@ use lib.ListN.{length, getD, set, length-set}
 use lib.Ieee.{Float, nan}
 use borrow.Author.Needs.{needs}
 use Rattle.block.specs.Loop.{Going, going-start, going-turn, going-end}
-use Rattle.proc.specs.declared.ChorusRead.{ChorusRead}
-use Rattle.proc.specs.Effects.{chorusOf}
+use Rattle.line_step.specs.declared.ChorusRead.{ChorusRead}
+use Rattle.line_step.specs.Line.{chorusOf}
 use Rattle.line_block.specs.Steps.{chorusByStep}
 use Rattle.line_block.proofs.chorus_by.Statement.{statement}
 use Rattle.line_block.proofs.chorus_by.Tie as tie

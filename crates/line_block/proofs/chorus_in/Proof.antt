@@ -7,7 +7,7 @@ use lib.ListN.{length}
 use lib.Ieee.{Float, nan}
 use borrow.Author.Needs.{needs}
 use Rattle.block.specs.Iterate.{at, given, given-at, given-same, after-same}
-use Rattle.proc.specs.Effects.{chorusPlace, chorusRead}
+use Rattle.line_step.specs.Line.{chorusPlace, chorusRead}
 use Rattle.proc_block.specs.Steps.{lfoStep}
 use Rattle.line_block.specs.Steps.{chorusAt, chorusStep, chorusByStep}
 use Rattle.line_block.proofs.chorus_in.Statement.{statement}

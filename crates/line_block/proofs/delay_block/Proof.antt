@@ -7,7 +7,7 @@ use lib.ListN.{length, getD, set, length-set}
 use lib.Ieee.{Float, nan}
 use borrow.Author.Needs.{needs}
 use Rattle.block.specs.Loop.{Going, going-start, going-turn, going-end}
-use Rattle.proc.specs.Effects.{delayOf}
+use Rattle.line_step.specs.Line.{delayOf}
 use Rattle.line_block.specs.Steps.{delayStep}
 use Rattle.line_block.proofs.delay_block.Statement.{statement}
 use Rattle.line_block.proofs.delay_block.Tie as tie

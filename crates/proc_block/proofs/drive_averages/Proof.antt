@@ -9,8 +9,8 @@ use Rattle.block.specs.Loop.{Going, going-start, going-turn, going-end}
 use Rattle.dsl.specs.declared.DriveShape.the-variants.{Tanh}
 use Rattle.dsp.specs.Math.{tangent-zero}
 use Rattle.drive.specs.Drive.{driveOf}
-use Rattle.proc.specs.declared.DriveOut.{DriveOut}
-use Rattle.proc.specs.Effects.{driveBy}
+use Rattle.drive_step.specs.declared.DriveOut.{DriveOut}
+use Rattle.drive_step.specs.Drive.{driveBy}
 use Rattle.proc_block.specs.Steps.{driveByStep}
 use borrow.Author.Needs.{needs}
 use Rattle.proc_block.proofs.drive_averages.Statement.{statement}

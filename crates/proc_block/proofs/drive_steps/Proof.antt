@@ -6,8 +6,8 @@ use native.Mathlib.Omega.{arith}
 use lib.ListN.{length}
 use lib.Ieee.{Float, nan}
 use Rattle.block.specs.Loop.{Going, going-start, going-turn, going-end}
-use Rattle.proc.specs.declared.DriveOut.{DriveOut}
-use Rattle.proc.specs.Effects.{driveStep}
+use Rattle.drive_step.specs.declared.DriveOut.{DriveOut}
+use Rattle.drive_step.specs.Drive.{driveStep}
 use lib.ListN.{getD}
 use Rattle.proc_block.specs.Steps.{driveStepAt}
 use borrow.Author.Needs.{needs}

@@ -6,8 +6,8 @@ use native.Mathlib.Omega.{arith}
 use lib.ListN.{length}
 use lib.Ieee.{Float, nan}
 use Rattle.block.specs.Loop.{Going, going-start, going-turn, going-end}
-use Rattle.proc.specs.declared.FilterOut.{FilterOut}
-use Rattle.proc.specs.Effects.{filterOf}
+use Rattle.filter_step.specs.declared.FilterOut.{FilterOut}
+use Rattle.filter_step.specs.Filter.{filterOf}
 use lib.ListN.{getD}
 use Rattle.proc_block.specs.Steps.{filterStep}
 use borrow.Author.Needs.{needs}

@@ -8,7 +8,7 @@ use lib.ListN.{length}
 use lib.Ieee.{Float, nan}
 use borrow.Author.Needs.{needs}
 use Rattle.block.specs.Loop.{Going, going-start, going-turn, going-end}
-use Rattle.proc.specs.Effects.{reverbMix}
+use Rattle.line_step.specs.Line.{reverbMix}
 use Rattle.reverb_block.specs.Reverb as bank
 use Rattle.reverb_block.specs.Reverb.{Wet, lineFrom, reverbOf, reverbStep, Placed}
 use Rattle.reverb_block.proofs.reverb_lines.Statement.{statement}

@@ -1,7 +1,7 @@
 -- `source::dust` meets its contract. Assumes nothing.
 use mathlib.Core.Path.{sym, ap, _∙_}
 use lib.Ieee.{lt}
-use Rattle.dsp.specs.declared.Drawn.{Drawn}
+use Rattle.rng.specs.declared.Drawn.{Drawn}
 use Rattle.source.specs.Others.{dustOf}
 use borrow.Author.Needs.{needs}
 use Rattle.source.proofs.dust.Statement.{statement}

@@ -6,7 +6,7 @@ use native.Mathlib.Omega.{arith}
 use lib.ListN.{length}
 use lib.Ieee.{Float, nan}
 use Rattle.block.specs.Loop.{Going, going-start, going-turn, going-end}
-use Rattle.dsp.specs.Envelope.{adsrOf}
+use Rattle.envelope.specs.Envelope.{adsrOf}
 use Rattle.source_block.specs.Steps.{envLevelStep}
 use borrow.Author.Needs.{needs}
 use Rattle.source_block.proofs.env_levels.Statement.{statement}

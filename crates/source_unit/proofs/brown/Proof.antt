@@ -4,8 +4,8 @@ use mathlib.Core.List.{[], _∷_}
 use lib.Ieee.{nan}
 use Rattle.tree.specs.Block.{tab}
 use Rattle.block.specs.Iterate.{at, word}
-use Rattle.source_block.specs.declared.Brown.{Brown}
-use Rattle.source_block.specs.Steps.{brownStep}
+use Rattle.noise_block.specs.declared.Brown.{Brown}
+use Rattle.noise_block.specs.Steps.{brownStep}
 use Rattle.unit.specs.Sources.{brownUnit}
 use Rattle.unit.specs.Block.{ran-part}
 use Rattle.tree.specs.Lists.{written, one-stored}

@@ -5,8 +5,8 @@ use lib.Ieee.{nan}
 use Rattle.tree.specs.Block.{tab}
 use Rattle.block.specs.Iterate.{at, word}
 use Rattle.source.specs.Others.{dustChance, dustDecay}
-use Rattle.source_block.specs.declared.Dust.{Dust}
-use Rattle.source_block.specs.Steps.{dustStep}
+use Rattle.noise_block.specs.declared.Dust.{Dust}
+use Rattle.noise_block.specs.Steps.{dustStep}
 use Rattle.unit.specs.Sources.{dustUnit}
 use Rattle.unit.specs.Block.{ran-part}
 use Rattle.tree.specs.Lists.{written, one-stored}

@@ -7,8 +7,8 @@ use lib.Ieee.{nan}
 use Rattle.tree.specs.Block.{tab}
 use Rattle.block.specs.Iterate.{at}
 use Rattle.source.specs.Oscillators.{fmOf}
-use Rattle.source_block.specs.declared.Fm.{Fm}
-use Rattle.source_block.specs.Steps.{fmStep}
+use Rattle.osc_block.specs.declared.Fm.{Fm}
+use Rattle.osc_block.specs.Steps.{fmStep}
 use Rattle.unit.specs.Sources.{fmUnit}
 use Rattle.tree.specs.Lists.{written}
 use Rattle.source_unit.specs.Laws.{two-stored, osc-ran}

@@ -6,8 +6,8 @@ use Rattle.tree.specs.Block.{tab}
 use Rattle.block.specs.Iterate.{after-keeps, word}
 use Rattle.source.specs.Others.{pinkOf}
 use Rattle.source.specs.declared.Poles.{Poles}
-use Rattle.source_block.specs.declared.Pink.{Pink}
-use Rattle.source_block.specs.Steps.{pinkState, pinkStep}
+use Rattle.noise_block.specs.declared.Pink.{Pink}
+use Rattle.noise_block.specs.Steps.{pinkState, pinkStep}
 use Rattle.unit.specs.Sources.{polesOf, pinkUnit}
 use Rattle.unit.specs.Block.{ran-part}
 use Rattle.tree.specs.Lists.{written, one-stored}

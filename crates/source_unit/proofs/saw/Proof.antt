@@ -5,7 +5,7 @@ use lib.Ieee.{nan}
 use Rattle.tree.specs.Block.{tab}
 use Rattle.block.specs.Iterate.{at}
 use Rattle.source.specs.Oscillators.{sawOf}
-use Rattle.source_block.specs.Steps.{sawStep}
+use Rattle.osc_block.specs.Steps.{sawStep}
 use Rattle.unit.specs.Sources.{sawUnit}
 use Rattle.tree.specs.Lists.{written, one-stored}
 use Rattle.source_unit.specs.Laws.{osc-ran}

@@ -5,7 +5,7 @@ use lib.Ieee.{nan}
 use Rattle.tree.specs.Block.{tab}
 use Rattle.block.specs.Iterate.{at}
 use Rattle.source.specs.Oscillators.{sineOf}
-use Rattle.source_block.specs.Steps.{sineStep}
+use Rattle.osc_block.specs.Steps.{sineStep}
 use Rattle.unit.specs.Sources.{sineUnit}
 use Rattle.tree.specs.Lists.{written, one-stored}
 use Rattle.source_unit.specs.Laws.{osc-ran}

@@ -5,7 +5,7 @@ use lib.Ieee.{nan}
 use Rattle.tree.specs.Block.{tab}
 use Rattle.block.specs.Iterate.{at}
 use Rattle.source.specs.Oscillators.{squareOf}
-use Rattle.source_block.specs.Steps.{squareStep}
+use Rattle.osc_block.specs.Steps.{squareStep}
 use Rattle.unit.specs.Sources.{squareUnit}
 use Rattle.tree.specs.Lists.{written, one-stored}
 use Rattle.source_unit.specs.Laws.{osc-ran}

@@ -5,8 +5,8 @@ use lib.Ieee.{nan}
 use Rattle.tree.specs.Block.{tab}
 use Rattle.block.specs.Iterate.{at}
 use Rattle.source.specs.Oscillators.{triangleOf}
-use Rattle.source_block.specs.declared.Triangle.{Triangle}
-use Rattle.source_block.specs.Steps.{triangleStep}
+use Rattle.osc_block.specs.declared.Triangle.{Triangle}
+use Rattle.osc_block.specs.Steps.{triangleStep}
 use Rattle.unit.specs.Sources.{triangleUnit}
 use Rattle.tree.specs.Lists.{written}
 use Rattle.source_unit.specs.Laws.{two-stored, osc-ran}

@@ -3,7 +3,7 @@ use mathlib.Core.Path.{refl, ap, _∙_}
 use mathlib.Core.List.{[], _∷_}
 use Prim.Native.Nat.{ℕ}
 use Rattle.tree.specs.Block.{tab}
-use Rattle.source_block.specs.Steps.{whiteStep}
+use Rattle.noise_block.specs.Steps.{whiteStep}
 use Rattle.block.specs.Iterate.{word}
 use Rattle.unit.specs.Own.{Own}
 use Rattle.unit.specs.Sources.{whiteUnit}

@@ -3,7 +3,7 @@ use mathlib.Core.Path.{_≡_, sym, ap, _∙_}
 use mathlib.Core.List.{[], _∷_}
 use Prim.Native.Nat.{_+_, _*_}
 use lib.ListN.{replicate}
-use Rattle.dsp.specs.Random.{stepped, seedOf}
+use Rattle.rng.specs.Random.{stepped, seedOf}
 use Rattle.sheet.specs.Laws.{rest}
 use Rattle.layout.specs.Needs.{needOf, registersBy}
 use Rattle.unit.specs.Start.{randWord, startRegisters}

@@ -1,0 +1,2 @@
+pub mod Envelope
+pub mod Cases
