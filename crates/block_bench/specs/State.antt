@@ -8,7 +8,7 @@ use lib.ListN.{getD}
 use Rattle.block.specs.Iterate.{at}
 use Rattle.float.specs.Single.{one}
 use Rattle.control.specs.declared.Controls.{Controls}
-use Rattle.value.specs.declared.Rand.{Rand}
+use Rattle.rand.specs.declared.Rand.{Rand}
 use Rattle.osc_block.specs.declared.Triangle.{Triangle}
 use Rattle.osc_block.specs.declared.Fm.{Fm}
 use Rattle.noise_block.specs.declared.Pink.{Pink}

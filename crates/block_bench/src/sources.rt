@@ -122,7 +122,7 @@ pub extern "C" fn block_pink(out: &mut [f32], cells: &mut [f32], words: &mut [u6
         cells[5],
         cells[6],
     ];
-    let r = noise_block::pink_block(out, words[0], source::Poles { b });
+    let r = noise_block::pink_block(out, words[0], unpitched::Poles { b });
     words[0] = r.word;
     let poles = r.poles;
     let c = poles.b;

@@ -84,7 +84,7 @@ pub extern "C" fn block_rand(
     requires { ⌜ (3 ≤ length (now cells)) × (1 ≤ length (now words)) ⌝ }
     ensures { λ v. ⌜ now (out .exit) ≡ given (randStep inc from to) (randOf (now (cells .entry)) (now (words .entry))) (length (now (out .entry))) ⌝ }
 {
-    let s = value::Rand {
+    let s = rand::Rand {
         word: words[0],
         prev: cells[0],
         next: cells[1],

@@ -72,7 +72,7 @@ fn drawn(which: u8, out: f32, word: u64, state: f32) -> u64 {
 }
 
 fn white(which: u8, x: [u64; 20]) -> u64 {
-    let d = source::white(whole(x[0], x[1]));
+    let d = unpitched::white(whole(x[0], x[1]));
     drawn(which, d.out, d.word, d.out)
 }
 
@@ -86,7 +86,7 @@ fn pink(which: u8, x: [u64; 20]) -> u64 {
         single(x[7]),
         single(x[8]),
     ];
-    let p = source::pink(whole(x[0], x[1]), source::Poles { b });
+    let p = unpitched::pink(whole(x[0], x[1]), unpitched::Poles { b });
     let poles = p.poles;
     let after = poles.b;
     let state = match which {
@@ -102,17 +102,17 @@ fn pink(which: u8, x: [u64; 20]) -> u64 {
 }
 
 fn brown(which: u8, x: [u64; 20]) -> u64 {
-    let b = source::brown(whole(x[0], x[1]), single(x[2]));
+    let b = unpitched::brown(whole(x[0], x[1]), single(x[2]));
     drawn(which, b.out, b.word, b.last)
 }
 
 fn dust(which: u8, x: [u64; 20]) -> u64 {
-    let d = source::dust(whole(x[0], x[1]), single(x[2]), single(x[3]), single(x[4]));
+    let d = unpitched::dust(whole(x[0], x[1]), single(x[2]), single(x[3]), single(x[4]));
     drawn(which, d.out, d.word, d.y)
 }
 
 fn env(x: [u64; 20]) -> f32 {
-    source::env(
+    unpitched::env(
         single(x[0]),
         single(x[1]),
         single(x[2]),
@@ -128,14 +128,14 @@ fn other(place: u8, which: u8, x: [u64; 20]) -> u64 {
     let a = single(x[0]);
     let b = single(x[1]);
     match place {
-        6 => source::impact_width(a, b),
-        7 => of_single(source::impact_norm(a, x[1])),
-        8 => of_single(source::impact(x[0], b, x[2])),
+        6 => unpitched::impact_width(a, b),
+        7 => of_single(unpitched::impact_norm(a, x[1])),
+        8 => of_single(unpitched::impact(x[0], b, x[2])),
         9 => white(which, x),
         10 => pink(which, x),
         11 => brown(which, x),
-        12 => of_single(source::dust_chance(a, b)),
-        13 => of_single(source::dust_decay(a, b)),
+        12 => of_single(unpitched::dust_chance(a, b)),
+        13 => of_single(unpitched::dust_decay(a, b)),
         14 => dust(which, x),
         _ => of_single(env(x)),
     }

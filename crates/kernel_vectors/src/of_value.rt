@@ -43,8 +43,8 @@ fn env_mod(x: [u64; 20]) -> f32 {
     )
 }
 
-fn walk(word: u64, prev: f32, next: f32, phase: f32) -> value::Rand {
-    value::Rand {
+fn walk(word: u64, prev: f32, next: f32, phase: f32) -> rand::Rand {
+    rand::Rand {
         word,
         prev,
         next,
@@ -54,7 +54,7 @@ fn walk(word: u64, prev: f32, next: f32, phase: f32) -> value::Rand {
 
 fn rand_next(which: u8, x: [u64; 20]) -> u64 {
     let s = walk(whole(x[3], x[4]), single(x[5]), single(x[6]), single(x[7]));
-    let r = value::rand_next(single(x[0]), single(x[1]), single(x[2]), s);
+    let r = rand::rand_next(single(x[0]), single(x[1]), single(x[2]), s);
     match which {
         0 | 1 => half(which, r.word),
         2 => of_single(r.prev),
@@ -72,8 +72,8 @@ fn float_of(place: u8, x: [u64; 20]) -> f32 {
         2 => value::lfo_phase(a, b, whole(x[2], x[3])),
         4 => value::release_start(whole(x[0], x[1]), single(x[2]), single(x[3])),
         5 => env_mod(x),
-        6 => value::rand_increment(a, b),
-        _ => value::rand_out(walk(0, a, b, single(x[2]))),
+        6 => rand::rand_increment(a, b),
+        _ => rand::rand_out(walk(0, a, b, single(x[2]))),
     }
 }
 

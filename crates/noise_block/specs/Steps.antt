@@ -1,11 +1,11 @@
 -- Noise and Dust for one sample as steps of a block: the state is what the kernel leaves.
 use Prim.Native.Nat.{ℕ}
 use lib.Ieee.{Float}
-use Rattle.source.specs.Others.{whiteOf, pinkOf, brownOf, dustOf}
-use Rattle.source.specs.declared.Poles.{Poles}
-use Rattle.source.specs.declared.PinkOut.{PinkOut}
-use Rattle.source.specs.declared.BrownOut.{BrownOut}
-use Rattle.source.specs.declared.DustOut.{DustOut}
+use Rattle.unpitched.specs.Others.{whiteOf, pinkOf, brownOf, dustOf}
+use Rattle.unpitched.specs.declared.Poles.{Poles}
+use Rattle.unpitched.specs.declared.PinkOut.{PinkOut}
+use Rattle.unpitched.specs.declared.BrownOut.{BrownOut}
+use Rattle.unpitched.specs.declared.DustOut.{DustOut}
 use Rattle.noise_block.specs.declared.Pink.{Pink}
 use Rattle.noise_block.specs.declared.Brown.{Brown}
 use Rattle.noise_block.specs.declared.Dust.{Dust}

@@ -7,7 +7,7 @@ ghost use Rattle.noise_block.specs.Steps.{whiteStep, pinkState, pinkStep
 
 pub struct Pink {
     pub word: u64,
-    pub poles: source::Poles,
+    pub poles: unpitched::Poles,
 }
 
 pub struct Brown {
@@ -26,7 +26,7 @@ pub fn white_block(out: &mut [f32], word: u64) -> u64
     let mut p = word;
     let mut k: usize = 0;
     while k < out.len() {
-        let s = source::white(p);
+        let s = unpitched::white(p);
         out[k] = s.out;
         p = s.word;
         k += 1;
@@ -40,7 +40,7 @@ pub fn brown_block(out: &mut [f32], s: Brown) -> Brown
     let mut p = s;
     let mut k: usize = 0;
     while k < out.len() {
-        let s = source::brown(p.word, p.last);
+        let s = unpitched::brown(p.word, p.last);
         out[k] = s.out;
         p = Brown {
             word: s.word,
@@ -58,7 +58,7 @@ pub fn dust_block(out: &mut [f32], chance: f32, decay: f32, s: Dust) -> Dust
     let mut p = s;
     let mut k: usize = 0;
     while k < out.len() {
-        let s = source::dust(p.word, chance, decay, p.y);
+        let s = unpitched::dust(p.word, chance, decay, p.y);
         out[k] = s.out;
         p = Dust {
             word: s.word,
@@ -72,14 +72,14 @@ pub fn dust_block(out: &mut [f32], chance: f32, decay: f32, s: Dust) -> Dust
 // ---- Env. A block whose positions are all below 2^24 goes in two passes: its seconds, four divisions at a time, and the
 // envelope at them.
 
-pub fn pink_block(out: &mut [f32], word: u64, poles: source::Poles) -> Pink
+pub fn pink_block(out: &mut [f32], word: u64, poles: unpitched::Poles) -> Pink
     ensures { λ v. ⌜ (now (out .exit) ≡ given pinkStep (pinkState word poles) (length (now (out .entry)))) × (v ≡ after pinkStep (pinkState word poles) (length (now (out .entry)))) ⌝ }
 {
     let mut w = word;
     let mut b = poles;
     let mut k: usize = 0;
     while k < out.len() {
-        let s = source::pink(w, b);
+        let s = unpitched::pink(w, b);
         out[k] = s.out;
         w = s.word;
         b = s.poles;

@@ -1,2 +1,1 @@
 pub mod Oscillators
-pub mod Others

@@ -7,7 +7,7 @@ use lib.Ieee.{Float, nan}
 use Rattle.tree.specs.Block.{tab-eq}
 use Rattle.envelope.specs.Envelope.{adsrOf}
 use Rattle.block.specs.Iterate.{at, given, sampleAt, given-length, given-at}
-use Rattle.source.specs.Others.{envOf}
+use Rattle.unpitched.specs.Others.{envOf}
 use Rattle.source_block.specs.Steps.{envStep, secondsStep, envLevelStep}
 
 -- ys are the seconds of a block of n

@@ -5,7 +5,7 @@ use lib.Ieee.{Float}
 use Rattle.block.specs.Iterate.{at}
 use Rattle.envelope.specs.Envelope.{adsrOf}
 use Rattle.value.specs.Modulators.{secondsOf}
-use Rattle.source.specs.Others.{impactOf, envOf}
+use Rattle.unpitched.specs.Others.{impactOf, envOf}
 
 unfoldable pub impactStep : ℕ → Float → ℕ → ℕ → Unit {0} → Float × Unit {0}
 impactStep w norm t k s = (impactOf w norm (t + k), s)

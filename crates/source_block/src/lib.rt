@@ -13,7 +13,7 @@ fn impact_samples(out: &mut [f32], w: u64, norm: f32, t: u64)
 {
     let mut k: usize = 0;
     while k < out.len() {
-        out[k] = source::impact(w, norm, t + (k as u64));
+        out[k] = unpitched::impact(w, norm, t + (k as u64));
         k += 1;
     }
 }
@@ -70,7 +70,7 @@ fn env_any(
 {
     let mut k: usize = 0;
     while k < out.len() {
-        out[k] = source::env(a, d, s, r, punch, srf, rel_start, t + (k as u64));
+        out[k] = unpitched::env(a, d, s, r, punch, srf, rel_start, t + (k as u64));
         k += 1;
     }
 }

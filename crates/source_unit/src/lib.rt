@@ -10,7 +10,7 @@ ghost use Rattle.dsl.specs.Options.{superWaveOf, noiseColorOf};
 ghost use Rattle.sheet.specs.Record.{optionOf, numberOf};
 ghost use Rattle.layout.specs.Needs.{voicesOf, noiseCells};
 ghost use Rattle.value.specs.Modulators.{releaseStart};
-ghost use Rattle.source.specs.Others.{impactWidth, impactNorm, dustChance, dustDecay};
+ghost use Rattle.unpitched.specs.Others.{impactWidth, impactNorm, dustChance, dustDecay};
 ghost use Rattle.unit.specs.Sources.{sineUnit, squareUnit, sawUnit, triangleUnit, fmUnit, superUnit, impactUnit, envUnit, whiteUnit, polesOf, pinkUnit, brownUnit, noiseUnit, dustUnit};
 ghost use Rattle.unit.specs.Unit.{kindUnit};
 ghost use Rattle.unit.specs.Block.{Ran, Lent, Pitched};
@@ -81,8 +81,8 @@ fn impact(out: &mut [f32], r: &[u8], srf: f32, c: control::Controls)
     requires { ⌜ (40 ≤ length (now r)) × (c .position + length (now out) < 2 ^ 64) ⌝ }
     ensures { λ x. ⌜ RanStateless (impactUnit (impactWidth (numberOf (now (r .entry)) 0) srf) (impactNorm (numberOf (now (r .entry)) 1) (impactWidth (numberOf (now (r .entry)) 0) srf))) c (now (out .entry)) (now (out .exit)) ⌝ }
 {
-    let w = source::impact_width(sheet::number(r, 0), srf);
-    let norm = source::impact_norm(sheet::number(r, 1), w);
+    let w = unpitched::impact_width(sheet::number(r, 0), srf);
+    let norm = unpitched::impact_norm(sheet::number(r, 1), w);
     source_block::impact_block(out, w, norm, c.position);
 }
 
@@ -114,11 +114,11 @@ fn white(out: &mut [f32], regs: &mut [u64])
     regs[0] = noise_block::white_block(out, regs[0]);
 }
 
-fn poles_of(cells: &[f32]) -> source::Poles
+fn poles_of(cells: &[f32]) -> unpitched::Poles
     requires { ⌜ length (now cells) ≡ 7 ⌝ }
     ensures { λ x. ⌜ x ≡ polesOf (now (cells .entry)) ⌝ }
 {
-    source::Poles {
+    unpitched::Poles {
         b: [
             cells[0],
             cells[1],
@@ -131,7 +131,7 @@ fn poles_of(cells: &[f32]) -> source::Poles
     }
 }
 
-fn store_poles(cells: &mut [f32], p: source::Poles)
+fn store_poles(cells: &mut [f32], p: unpitched::Poles)
     requires { ⌜ (length (now cells) ≡ 7) × (length (p .b) ≡ 7) ⌝ }
     ensures { λ x. ⌜ now (cells .exit) ≡ p .b ⌝ }
 {
@@ -182,8 +182,8 @@ fn dust(out: &mut [f32], r: &[u8], srf: f32, cells: &mut [f32], regs: &mut [u64]
     requires { ⌜ (40 ≤ length (now r)) × (length (now cells) ≡ 1) × (length (now regs) ≡ 1) ⌝ }
     ensures { λ x. ⌜ RanAlone (dustUnit (dustChance (numberOf (now (r .entry)) 0) srf) (dustDecay (numberOf (now (r .entry)) 1) srf)) (now (out .entry)) (now (cells .entry)) (now (regs .entry)) (now (out .exit)) (now (cells .exit)) (now (regs .exit)) ⌝ }
 {
-    let chance = source::dust_chance(sheet::number(r, 0), srf);
-    let decay = source::dust_decay(sheet::number(r, 1), srf);
+    let chance = unpitched::dust_chance(sheet::number(r, 0), srf);
+    let decay = unpitched::dust_decay(sheet::number(r, 1), srf);
     let s = noise_block::Dust {
         word: regs[0],
         y: cells[0],

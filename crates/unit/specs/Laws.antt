@@ -27,9 +27,9 @@ use Rattle.lines.specs.Lines.{delayLine, chorusBase, chorusSwing, chorusLine, t
 use Rattle.dsp.specs.Coefficients.{feedbackOf}
 use Rattle.line_step.specs.Line.{nextPlace}
 use Rattle.source.specs.Oscillators.{hertz}
-use Rattle.source.specs.Others.{pinkOf}
-use Rattle.value.specs.Modulators.{randIncrement}
-use Rattle.value.proofs.RandPhase.{phase-kept, increment-bound}
+use Rattle.unpitched.specs.Others.{pinkOf}
+use Rattle.rand.specs.Rand.{randIncrement}
+use Rattle.rand.proofs.RandPhase.{phase-kept, increment-bound}
 use Rattle.super_block.specs.Super.{voiceAt, superOf}
 use Rattle.modal_block.specs.Modal.{modeStep, putMode, modalOf}
 use Rattle.reverb_block.specs.Reverb.{Wet, combAt, allpassAt, reverbOf}

@@ -14,8 +14,8 @@ use Rattle.sheet.specs.Record.{optionOf, numberOf}
 use Rattle.layout.specs.Needs.{voicesOf}
 use Rattle.value.specs.Modulators.{releaseStart}
 use Rattle.source.specs.Oscillators.{sineOf, squareOf, sawOf, triangleOf, fmOf}
-use Rattle.source.specs.Others.{impactWidth, impactNorm, impactOf, envOf, whiteOf, pinkOf, brownOf, dustChance, dustDecay, dustOf}
-use Rattle.source.specs.declared.Poles.{Poles}
+use Rattle.unpitched.specs.Others.{impactWidth, impactNorm, impactOf, envOf, whiteOf, pinkOf, brownOf, dustChance, dustDecay, dustOf}
+use Rattle.unpitched.specs.declared.Poles.{Poles}
 use Rattle.super_block.specs.Super.{superOf}
 use Rattle.unit.specs.Own.{Ugen, stateless, silentUnit}
 

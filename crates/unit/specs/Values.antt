@@ -5,8 +5,9 @@ use lib.Ieee.{Float}
 use Rattle.block.specs.Iterate.{at, word}
 use Rattle.sheet.specs.declared.Value.{Value}
 use Rattle.sheet.specs.declared.Value.the-variants.{Const, Slide, Lfo, Arp, EnvMod, Rand}
-use Rattle.value.specs.declared.Rand.{Rand as Walk}
-use Rattle.value.specs.Modulators.{slideSecs, slideOf, lfoOf, arpOf, releaseStart, envModOf, randIncrement, randOut, randNext}
+use Rattle.rand.specs.declared.Rand.{Rand as Walk}
+use Rattle.value.specs.Modulators.{slideSecs, slideOf, lfoOf, arpOf, releaseStart, envModOf}
+use Rattle.rand.specs.Rand.{randIncrement, randOut, randNext}
 use Rattle.unit.specs.Own.{Own, Ugen, stateless}
 
 -- Rand's walk in its cells and its register

@@ -1,22 +1,20 @@
--- The values of document 01 for one sample. t is the position, srf the rate as an f32; what depends on the sheet alone is given: secs floored, the release's start, Rand's increment.
-use mathlib.Core.Bool.{Bool, true, false, cond, _&&_}
+-- The values of document 01 for one sample. t is the position, srf the rate as an f32; what depends on the sheet alone is given: secs floored, the release's start.
+use mathlib.Core.Bool.{cond, _&&_}
 use mathlib.Core.List.{List}
-use Prim.Native.Nat.{ℕ, zero, suc, _%_}
+use Prim.Native.Nat.{ℕ, _%_}
 use lib.Dec.{eqb}
 use lib.ListN.{length, getD}
 use lib.IntN.{pos}
-use lib.Ieee.{Float, nan, binary32, lt, le, ofBits, ofInt, toUnsigned}
+use lib.Ieee.{Float, nan, binary32, lt, ofBits, ofInt, toUnsigned}
 use Rattle.float.specs.Whole.{fractOf}
-use Rattle.float.specs.Order.{maxOf, minOf, clampOf}
-use Rattle.float.specs.Single.{_⊕_, _⊖_, _⊗_, _⊘_, zero as zeroF, one, two, three}
-use Rattle.rng.specs.Random.{stepped, rangeOf}
+use Rattle.float.specs.Order.{maxOf, clampOf}
+use Rattle.float.specs.Single.{_⊕_, _⊖_, _⊗_, _⊘_, zero as zeroF, one}
 use Rattle.dsp.specs.Math.{power}
 use Rattle.envelope.specs.Envelope.{adsrOf}
 use Rattle.osc.specs.Osc.{oscOf}
 use Rattle.dsl.specs.declared.Shape.{Shape}
 use Rattle.dsl.specs.declared.Curve.{Curve}
 use Rattle.dsl.specs.declared.Curve.the-variants.{Lin, Exp}
-use Rattle.value.specs.declared.Rand.{Rand}
 
 -- the position in seconds
 abbrev pub secondsOf : ℕ → Float → Float
@@ -62,27 +60,3 @@ releaseStart n srf r = maxOf (ofInt binary32 (pos n) ⊘ srf ⊖ r) zeroF
 
 unfoldable pub envModOf : Float → Float → Float → Float → Float → Float → Float → Float → Float → ℕ → Float
 envModOf a d s r punch from to srf relStart t = lerp from to (adsrOf (secondsOf t srf) a d s r punch relStart)
-
--- Rand: a walk between numbers drawn one after another, smoothed by 3 p² - 2 p³ in each segment. The increment is how many segments a sample makes, at most 64.
-unfoldable pub randIncrement : Float → Float → Float
-randIncrement rate srf = minOf (maxOf rate (ofBits binary32 0x38d1_b717) ⊘ srf) (ofBits binary32 0x4280_0000)
-
-unfoldable pub randOut : Rand → Float
-randOut s =
-    let p = s .phase in
-    s .prev ⊕ (s .next ⊖ s .prev) ⊗ (p ⊗ p ⊗ (three ⊖ two ⊗ p))
-
--- one segment is done: the next number is drawn
-unfoldable pub randTurn : Float → Float → Rand → Rand
-randTurn from to s = record { word = stepped (s .word); prev = s .next; next = rangeOf (s .word) from to; phase = s .phase ⊖ one }
-
--- while the phase is 1 or more, n times at most; the test is an argument. An increment of at most 64 on a phase below 1 takes at most 65, so the bound cuts nothing off (`catch-ends`).
-unfoldable pub catchUp : ℕ → Bool → Float → Float → Rand → Rand
-catchUp zero more from to s = s
-catchUp (suc n) false from to s = s
-catchUp (suc n) true from to s = let r = randTurn from to s in catchUp n (le one (r .phase)) from to r
-
-unfoldable pub randNext : Float → Float → Float → Rand → Rand
-randNext inc from to s =
-    let r : Rand = record { word = s .word; prev = s .prev; next = s .next; phase = s .phase ⊕ inc } in
-    catchUp 65 (le one (r .phase)) from to r

@@ -6,8 +6,9 @@ use Rattle.float.specs.Single.{_⊕_, _⊗_, tau}
 use Rattle.block.specs.Iterate.{at}
 use Rattle.dsl.specs.declared.Shape.{Shape}
 use Rattle.dsl.specs.declared.Curve.{Curve}
-use Rattle.value.specs.declared.Rand.{Rand}
-use Rattle.value.specs.Modulators.{slideOf, lfoPhase, lfoOf, envModOf, randOut, randNext}
+use Rattle.rand.specs.declared.Rand.{Rand}
+use Rattle.value.specs.Modulators.{slideOf, lfoPhase, lfoOf, envModOf}
+use Rattle.rand.specs.Rand.{randOut, randNext}
 
 unfoldable pub slideStep : Curve → Float → Float → Float → Float → ℕ → ℕ → Unit {0} → Float × Unit {0}
 slideStep curve from to secs srf t k s = (slideOf curve from to secs srf (t + k), s)

@@ -177,14 +177,14 @@ pub fn env_mod_block(
 }
 
 // One turn of the walk per sample; inc is `rand_increment` of the sheet, worked out once.
-pub fn rand_block(out: &mut [f32], inc: f32, from: f32, to: f32, s: value::Rand) -> value::Rand
+pub fn rand_block(out: &mut [f32], inc: f32, from: f32, to: f32, s: rand::Rand) -> rand::Rand
     ensures { λ v. ⌜ (now (out .exit) ≡ given (randStep inc from to) s (length (now (out .entry)))) × (v ≡ after (randStep inc from to) s (length (now (out .entry)))) ⌝ }
 {
     let mut p = s;
     let mut k: usize = 0;
     while k < out.len() {
-        out[k] = value::rand_out(p);
-        p = value::rand_next(inc, from, to, p);
+        out[k] = rand::rand_out(p);
+        p = rand::rand_next(inc, from, to, p);
         k += 1;
     }
     p

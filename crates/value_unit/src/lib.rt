@@ -6,7 +6,7 @@ ghost use lib.ListN.{length};
 ghost use Rattle.block.specs.Iterate.{given};
 ghost use Rattle.sheet.specs.Record.{next};
 ghost use Rattle.layout.specs.Tables.{Table, Passed};
-ghost use Rattle.value.specs.Modulators.{randIncrement};
+ghost use Rattle.rand.specs.Rand.{randIncrement};
 ghost use Rattle.unit.specs.Values.{randUnit};
 ghost use Rattle.unit.specs.Unit as unit;
 ghost use Rattle.unit.specs.Unit.{kindUnit};
@@ -122,13 +122,13 @@ fn rand(
     requires { ⌜ (length (now cells) ≡ 3) × (length (now regs) ≡ 1) ⌝ }
     ensures { λ x. ⌜ RanAlone (randUnit (randIncrement rate srf) from to) (now (out .entry)) (now (cells .entry)) (now (regs .entry)) (now (out .exit)) (now (cells .exit)) (now (regs .exit)) ⌝ }
 {
-    let s = value::Rand {
+    let s = rand::Rand {
         word: regs[0],
         prev: cells[0],
         next: cells[1],
         phase: cells[2],
     };
-    let r = value_block::rand_block(out, value::rand_increment(rate, srf), from, to, s);
+    let r = value_block::rand_block(out, rand::rand_increment(rate, srf), from, to, s);
     regs[0] = r.word;
     cells[0] = r.prev;
     cells[1] = r.next;

@@ -5,7 +5,7 @@ use native.Mathlib.Omega.{arith}
 use lib.ListN.{length}
 use lib.Ieee.{nan}
 use Rattle.block.specs.Loop.{Going, going-start, going-turn, going-end}
-use Rattle.source.specs.declared.BrownOut.{BrownOut}
+use Rattle.unpitched.specs.declared.BrownOut.{BrownOut}
 use Rattle.noise_block.specs.Steps.{brownStep, brownNext}
 use borrow.Author.Needs.{needs}
 use Rattle.noise_block.proofs.brown_block.Statement.{statement}

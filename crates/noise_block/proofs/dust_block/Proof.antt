@@ -5,7 +5,7 @@ use native.Mathlib.Omega.{arith}
 use lib.ListN.{length}
 use lib.Ieee.{nan}
 use Rattle.block.specs.Loop.{Going, going-start, going-turn, going-end}
-use Rattle.source.specs.declared.DustOut.{DustOut}
+use Rattle.unpitched.specs.declared.DustOut.{DustOut}
 use Rattle.noise_block.specs.Steps.{dustStep, dustNext}
 use borrow.Author.Needs.{needs}
 use Rattle.noise_block.proofs.dust_block.Statement.{statement}

@@ -6,7 +6,7 @@ use lib.ListN.{length}
 use lib.Ieee.{nan}
 use borrow.Author.Needs.{needs}
 use Rattle.block.specs.Loop.{Going, going-start, going-turn, going-end}
-use Rattle.source.specs.declared.PinkOut.{PinkOut}
+use Rattle.unpitched.specs.declared.PinkOut.{PinkOut}
 use Rattle.noise_block.specs.Steps.{pinkState, pinkNext, pinkStep}
 use Rattle.noise_block.proofs.pink_block.Statement.{statement}
 use Rattle.noise_block.proofs.pink_block.Tie as tie

@@ -7,7 +7,7 @@ use borrow.Author.Tests.{le-ltb}
 use borrow.Author.Needs.{needs}
 use Rattle.float.specs.Single.{zero}
 use Rattle.block.specs.Iterate.{given-still}
-use Rattle.source.specs.Others.{impactOf}
+use Rattle.unpitched.specs.Others.{impactOf}
 use Rattle.source_block.specs.Steps.{impactStep}
 use Rattle.source_block.proofs.impact_block.Statement.{statement}
 use Rattle.source_block.proofs.impact_block.Tie as tie

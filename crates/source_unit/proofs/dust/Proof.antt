@@ -4,7 +4,7 @@ use mathlib.Core.List.{[], _∷_}
 use lib.Ieee.{nan}
 use Rattle.tree.specs.Block.{tab}
 use Rattle.block.specs.Iterate.{at, word}
-use Rattle.source.specs.Others.{dustChance, dustDecay}
+use Rattle.unpitched.specs.Others.{dustChance, dustDecay}
 use Rattle.noise_block.specs.declared.Dust.{Dust}
 use Rattle.noise_block.specs.Steps.{dustStep}
 use Rattle.unit.specs.Sources.{dustUnit}

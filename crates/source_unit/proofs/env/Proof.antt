@@ -2,7 +2,7 @@
 use mathlib.Core.Path.{sym, ap, _∙_}
 use mathlib.Core.List.{[]}
 use Rattle.value.specs.Modulators.{releaseStart}
-use Rattle.source.specs.Others.{envOf}
+use Rattle.unpitched.specs.Others.{envOf}
 use Rattle.source_block.specs.Steps.{envStep}
 use Rattle.unit.specs.Block.{moment-position, ran-stateless}
 use borrow.Author.Needs.{needs}

@@ -1,7 +1,7 @@
 -- `source_unit::impact` meets its contract. Assumes nothing.
 use mathlib.Core.Path.{sym, ap, _∙_}
 use mathlib.Core.List.{[]}
-use Rattle.source.specs.Others.{impactWidth, impactNorm, impactOf}
+use Rattle.unpitched.specs.Others.{impactWidth, impactNorm, impactOf}
 use Rattle.source_block.specs.Steps.{impactStep}
 use Rattle.unit.specs.Block.{moment-position, ran-stateless}
 use borrow.Author.Needs.{needs}

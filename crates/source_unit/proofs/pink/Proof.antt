@@ -4,8 +4,8 @@ use mathlib.Core.List.{[], _∷_}
 use lib.ListN.{length}
 use Rattle.tree.specs.Block.{tab}
 use Rattle.block.specs.Iterate.{after-keeps, word}
-use Rattle.source.specs.Others.{pinkOf}
-use Rattle.source.specs.declared.Poles.{Poles}
+use Rattle.unpitched.specs.Others.{pinkOf}
+use Rattle.unpitched.specs.declared.Poles.{Poles}
 use Rattle.noise_block.specs.declared.Pink.{Pink}
 use Rattle.noise_block.specs.Steps.{pinkState, pinkStep}
 use Rattle.unit.specs.Sources.{polesOf, pinkUnit}

@@ -5,7 +5,7 @@ use native.Mathlib.Omega.{arith}
 use lib.ListN.{length-set}
 use lib.Ieee.{nan}
 use Rattle.tree.specs.Block.{tab}
-use Rattle.value.specs.declared.Rand.{Rand as Walk}
+use Rattle.rand.specs.declared.Rand.{Rand as Walk}
 use Rattle.value_block.specs.Steps.{randStep}
 use Rattle.unit.specs.Values.{walkOf, walkOwn, randUnit}
 use Rattle.unit.specs.Block.{ran-part}
