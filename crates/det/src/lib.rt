@@ -112,7 +112,7 @@ pub fn reduce_2pi(x: f64) -> f64
             return ((x - 1.0 * PI2_HI) - 1.0 * PI2_MID) - 1.0 * PI2_LO;
         }
     }
-    let k = float::round_f64(y);
+    let k = rounding::round_f64(y);
     ((x - k * PI2_HI) - k * PI2_MID) - k * PI2_LO
 }
 
@@ -139,7 +139,7 @@ fn turn(k: u64, a: f64) -> f64
 fn sin_turned(r: f64) -> f64
     ensures { λ v. ⌜ v ≡ sinReduced r ⌝ }
 {
-    let q = float::round_f64(r / FRAC_PI_2);
+    let q = rounding::round_f64(r / FRAC_PI_2);
     let a = r - whole_by_i64(q) * FRAC_PI_2;
     turn(quadrant(whole_to_i64(q)), a)
 }
@@ -239,7 +239,7 @@ fn exp_plain(x: f64) -> f64
     if x < EXP_MIN {
         return 0.0;
     }
-    let k = float::round_f64(x * INV_LN2);
+    let k = rounding::round_f64(x * INV_LN2);
     let r = (x - k * LN2_HI) - k * LN2_LO;
     exp_poly(r) * ldexp2(whole_to_i64(k))
 }
