@@ -5,7 +5,7 @@ use mathlib.Core.Bool.{true, false}
 use Prim.Native.Nat.{ℕ}
 use lib.IntN.{pos, negsuc}
 use lib.Ieee.{Float, nan, inf, fin, binary32, neg, add, sub, mul, div, lt, ofBits, ofInt}
-use Rattle.float.specs.Whole.{wholeOf}
+use Rattle.rounding.specs.Whole.{wholeOf}
 use Rattle.float.specs.Single.{zero, half, one, two}
 use Rattle.dsl.specs.declared.Shape.the-variants.{Triangle}
 use Rattle.dsl.specs.declared.DriveShape.the-variants.{Hard, Fold}

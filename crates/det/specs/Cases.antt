@@ -1,7 +1,7 @@
 -- Worked values, each the Rust's own answer.
 use mathlib.Core.Path.{_≡_, refl}
 use lib.Ieee.{ofBits, ofInt, toSigned, size, isNan, neg, lt, eq, add, sub, mul, div}
-use Rattle.float.specs.Whole.{wholeOf}
+use Rattle.rounding.specs.Whole.{wholeOf}
 use Rattle.double.specs.Double.{bits, zero, horner}
 use Rattle.exp.specs.Exp.{powerOfTwo, expPoly, expOf, expm1Small}
 use Rattle.det.specs.Log.{exponentOf, mantissaOf, lnSeries, lnFolded, lnOf, powOf, log10Of}

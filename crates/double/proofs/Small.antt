@@ -15,7 +15,7 @@ use lib.Ieee.Positive.{num, den}
 use lib.Ieee.Back.{float-back-signed}
 use Rattle.ieee.proofs.Tests.{null, two-to, cond-no, is-true}
 use Rattle.ieee.proofs.Value.{round-self, zero-exp, whole-value, fits-lt}
-use Rattle.float.specs.Whole.{half, wholeOf, roundOf}
+use Rattle.rounding.specs.Whole.{half, wholeOf, roundOf}
 
 -- ---- the sum with +0
 plain : (a d : ℕ) → a * 1 + 0 * d ≡ a

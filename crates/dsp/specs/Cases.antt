@@ -1,7 +1,7 @@
 -- Worked values, each the Rust's own answer.
 use mathlib.Core.Path.{_≡_, refl}
 use lib.Ieee.{binary32, ofBits, ofInt, toSigned, isNan, lt, neg, add, sub, mul, div, round}
-use Rattle.float.specs.Whole.{wholeOf}
+use Rattle.rounding.specs.Whole.{wholeOf}
 use Rattle.float.specs.Order.{negative, maxOf, clampOf}
 use Rattle.cast.specs.Narrow.{narrowOf}
 use Rattle.double.specs.Double.{horner}

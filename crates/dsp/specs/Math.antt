@@ -1,7 +1,7 @@
 -- det.rs's functions as dsp.rs calls them: worked out in f64 and rounded to f32 once.
 use mathlib.Core.Path.{_≡_, refl, ap}
 use lib.Ieee.{Float, round, ofBits, ofInt, toSigned, isNan, neg, lt, add, sub, mul, div}
-use Rattle.float.specs.Whole.{wholeOf}
+use Rattle.rounding.specs.Whole.{wholeOf}
 use Rattle.cast.specs.Narrow.{narrowOf}
 use Rattle.trig.specs.Trig.{sinOf, cosOf}
 use Rattle.double.specs.Double.{horner}

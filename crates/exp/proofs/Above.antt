@@ -20,9 +20,9 @@ use Rattle.ieee.proofs.Value.{lt-values, two-to-value}
 use Rattle.ieee.proofs.Build.{build, no-nan-bits}
 use Rattle.ieee.proofs.Read.{neg-round}
 use Rattle.ieee.proofs.Whole.{own, raised, lowered, half-stays}
-use Rattle.float.specs.Whole.{half, wholeOf, roundOf}
-use Rattle.float.proofs.Laws.{above, half-one}
-use Rattle.float.proofs.Phase.{lt-two-to}
+use Rattle.rounding.specs.Whole.{half, wholeOf, roundOf}
+use Rattle.rounding.proofs.Laws.{above, half-one}
+use Rattle.rounding.proofs.Phase.{lt-two-to}
 use Rattle.cast.proofs.Normal.{neg-neg}
 use Rattle.exp.specs.Exp.{invLn2, powerOfTwo, expMax, expMin}
 use Rattle.exp.proofs.Power.{Written, normal}

@@ -5,7 +5,7 @@ use mathlib.Core.List.{List, [], _∷_}
 use lib.IntN.{ℤ, pos, negsuc}
 use lib.Dec.{ltb}
 use lib.Ieee.{Float, inf, fin, binary64, lt, ofInt, toSigned}
-use Rattle.float.specs.Whole.{roundOf}
+use Rattle.rounding.specs.Whole.{roundOf}
 use Rattle.double.specs.Double.{_⊖_, _⊗_, _⊘_, bits, zero, one, two, horner}
 
 -- ln 2 in two parts, 6.93147180369123816490e-01 and 1.90821492927058770002e-10; 1 / ln 2, 1.4426950408889634

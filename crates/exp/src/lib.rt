@@ -65,7 +65,7 @@ fn exp_plain(x: f64) -> f64
     if x < EXP_MIN {
         return 0.0;
     }
-    let k = float::round_f64(x * INV_LN2);
+    let k = rounding::round_f64(x * INV_LN2);
     let r = (x - k * LN2_HI) - k * LN2_LO;
     exp_poly(r) * ldexp2(double::whole_to_i64(k))
 }

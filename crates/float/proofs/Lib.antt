@@ -1,4 +1,2 @@
-pub mod Laws
 pub mod Order
-pub mod Phase
 pub mod Euclid

@@ -1,4 +1,3 @@
-pub mod Whole
 pub mod Order
 pub mod Euclid
 pub mod Single

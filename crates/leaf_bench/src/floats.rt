@@ -5,7 +5,7 @@ ghost use Prim.Native.Nat.{_*_, _%_, _^_};
 ghost use lib.IntN.{pos};
 ghost use lib.Ieee as Ieee;
 ghost use lib.Ieee.{fin, binary32, binary64};
-ghost use Rattle.float.specs.Whole.{floorOf, truncOf, roundOf, fractOf, wrapOf};
+ghost use Rattle.rounding.specs.Whole.{floorOf, truncOf, roundOf, fractOf, wrapOf};
 ghost use Rattle.float.specs.Order.{absOf, isFinite, maxOf, minOf, clampOf};
 ghost use Rattle.float.specs.Euclid.{remEuclidOf};
 ghost use Rattle.sqrt.specs.Sqrt.{sqrtOf};
@@ -14,35 +14,35 @@ ghost use Rattle.sqrt.specs.Sqrt.{sqrtOf};
 pub extern "C" fn leaf_floor(x: f32) -> f32
     ensures { λ r. ⌜ r ≡ floorOf binary32 x ⌝ }
 {
-    float::floor(x)
+    rounding::floor(x)
 }
 
 #[no_mangle]
 pub extern "C" fn leaf_trunc(x: f32) -> f32
     ensures { λ r. ⌜ r ≡ truncOf binary32 x ⌝ }
 {
-    float::trunc(x)
+    rounding::trunc(x)
 }
 
 #[no_mangle]
 pub extern "C" fn leaf_round(x: f32) -> f32
     ensures { λ r. ⌜ r ≡ roundOf binary32 x ⌝ }
 {
-    float::round(x)
+    rounding::round(x)
 }
 
 #[no_mangle]
 pub extern "C" fn leaf_fract(x: f32) -> f32
     ensures { λ r. ⌜ r ≡ fractOf binary32 x ⌝ }
 {
-    float::fract(x)
+    rounding::fract(x)
 }
 
 #[no_mangle]
 pub extern "C" fn leaf_wrap(x: f32) -> f32
     ensures { λ r. ⌜ r ≡ wrapOf binary32 x ⌝ }
 {
-    float::wrap(x)
+    rounding::wrap(x)
 }
 
 #[no_mangle]
@@ -119,7 +119,7 @@ pub extern "C" fn leaf_to_bits(x: f32) -> u32
 pub extern "C" fn leaf_round_f64(x: f64) -> f64
     ensures { λ r. ⌜ r ≡ roundOf binary64 x ⌝ }
 {
-    float::round_f64(x)
+    rounding::round_f64(x)
 }
 
 #[no_mangle]

@@ -54,12 +54,12 @@ fn of_signed(n: i64) -> u64
 // The leaves from f32 to f32.
 fn float_of(place: u8, x: f32, b: u64, c: u64) -> f32 {
     match place {
-        0 => float::floor(x),
-        1 => float::trunc(x),
-        2 => float::round(x),
-        3 => float::fract(x),
+        0 => rounding::floor(x),
+        1 => rounding::trunc(x),
+        2 => rounding::round(x),
+        3 => rounding::fract(x),
         4 => float::abs(x),
-        5 => float::wrap(x),
+        5 => rounding::wrap(x),
         6 => float::max0(x),
         9 => float::max(x, single(b)),
         10 => float::min(x, single(b)),
@@ -75,7 +75,7 @@ fn other(place: u8, a: u64, b: u64) -> u64 {
     match place {
         7 => of_bool(float::is_nan(single(a))),
         8 => of_bool(float::is_finite(single(a))),
-        14 => of_double(float::round_f64(double(a))),
+        14 => of_double(rounding::round_f64(double(a))),
         15 => of_bool(float::is_nan_f64(double(a))),
         16 => of_double(double(a)),
         17 => of_single(cast::u64_to_f32(a)),

@@ -2,7 +2,7 @@
 use Prim.Native.Nat.{ℕ, _+_, _%_}
 use lib.IntN.{pos}
 use lib.Ieee.{Float, binary32, neg, ofBits, ofInt, toUnsigned}
-use Rattle.float.specs.Whole.{floorOf}
+use Rattle.rounding.specs.Whole.{floorOf}
 use Rattle.float.specs.Euclid.{remEuclidOf}
 use Rattle.float.specs.Single.{_⊕_, _⊖_, _⊗_, half, one}
 use Rattle.proc.specs.Effects.{blend, lfoAt}

@@ -77,7 +77,7 @@ pub fn chorus_place(base: f32, swing: f32, sine: f32, len: u64, w: u64) -> Choru
 {
     let delay = base + swing * sine;
     let read = float::rem_euclid(cast::u64_to_f32(w) - delay, cast::u64_to_f32(len));
-    let whole = float::floor(read);
+    let whole = rounding::floor(read);
     let i0 = within(cast::f32_to_u64(whole), len);
     ChorusRead {
         i0,

@@ -1,7 +1,7 @@
 -- The oscillators for one sample: what they put out and the phase that they leave. f is the frequency's value, pitch the live multiplier, srf the rate.
 use mathlib.Core.Bool.{cond}
 use lib.Ieee.{Float, binary32, neg, lt, ofBits}
-use Rattle.float.specs.Whole.{fractOf, wrapOf}
+use Rattle.rounding.specs.Whole.{fractOf, wrapOf}
 use Rattle.float.specs.Order.{maxOf, clampOf}
 use Rattle.float.specs.Single.{_⊕_, _⊖_, _⊗_, _⊘_, zero, half, one, two, four, tau}
 use Rattle.dsp.specs.Math.{sine}

@@ -31,7 +31,7 @@ fn step_of(f: f32, pitch: f32, srf: f32) -> f32
 pub fn phase_next(f: f32, pitch: f32, srf: f32, phase: f32) -> f32
     ensures { λ r. ⌜ r ≡ advance phase (increment f pitch srf) ⌝ }
 {
-    float::wrap(phase + step_of(f, pitch, srf))
+    rounding::wrap(phase + step_of(f, pitch, srf))
 }
 
 pub fn sine(f: f32, pitch: f32, srf: f32, phase: f32) -> Phased
@@ -53,7 +53,7 @@ fn pulse_at(phase: f32, duty: f32, dt: f32) -> f32
     ensures { λ r. ⌜ r ≡ pulse phase duty dt ⌝ }
 {
     level_at(phase, duty) + osc::poly_blep(phase, dt)
-        - osc::poly_blep(float::fract(phase - duty + 1.0), dt)
+        - osc::poly_blep(rounding::fract(phase - duty + 1.0), dt)
 }
 
 pub fn square(f: f32, duty: f32, pitch: f32, srf: f32, phase: f32) -> Phased
@@ -61,7 +61,7 @@ pub fn square(f: f32, duty: f32, pitch: f32, srf: f32, phase: f32) -> Phased
 {
     let dt = step_of(f, pitch, srf);
     let out = pulse_at(phase, float::clamp(duty, 0.01, 0.99), dt);
-    let next = float::wrap(phase + dt);
+    let next = rounding::wrap(phase + dt);
     Phased { out, phase: next }
 }
 
@@ -76,14 +76,15 @@ pub fn saw(f: f32, pitch: f32, srf: f32, phase: f32) -> Phased
 {
     let dt = step_of(f, pitch, srf);
     let out = saw_at(phase, dt);
-    let next = float::wrap(phase + dt);
+    let next = rounding::wrap(phase + dt);
     Phased { out, phase: next }
 }
 
 fn half_pulse(phase: f32, dt: f32) -> f32
     ensures { λ r. ⌜ r ≡ halfPulse phase dt ⌝ }
 {
-    level_at(phase, 0.5) + osc::poly_blep(phase, dt) - osc::poly_blep(float::fract(phase + 0.5), dt)
+    level_at(phase, 0.5) + osc::poly_blep(phase, dt)
+        - osc::poly_blep(rounding::fract(phase + 0.5), dt)
 }
 
 pub fn triangle(f: f32, pitch: f32, srf: f32, phase: f32, tri: f32) -> TriangleOut
@@ -91,7 +92,7 @@ pub fn triangle(f: f32, pitch: f32, srf: f32, phase: f32, tri: f32) -> TriangleO
 {
     let dt = step_of(f, pitch, srf);
     let y = tri * 0.9995 + 4.0 * dt * half_pulse(phase, dt);
-    let next = float::wrap(phase + dt);
+    let next = rounding::wrap(phase + dt);
     TriangleOut {
         out: y,
         phase: next,
@@ -103,7 +104,7 @@ pub fn triangle(f: f32, pitch: f32, srf: f32, phase: f32, tri: f32) -> TriangleO
 pub fn modulator_next(f: f32, ratio: f32, pitch: f32, srf: f32, mph: f32) -> f32
     ensures { λ r. ⌜ r ≡ advance mph (hertz f pitch ⊗ ratio ⊘ srf) ⌝ }
 {
-    float::wrap(mph + float::max0(f) * pitch * ratio / srf)
+    rounding::wrap(mph + float::max0(f) * pitch * ratio / srf)
 }
 
 pub fn fm(f: f32, index: f32, ratio: f32, pitch: f32, srf: f32, cph: f32, mph: f32) -> FmOut
@@ -125,7 +126,7 @@ pub fn super_voice(wave: dsl::SuperWave, f: f32, ratio: f32, srf: f32, phase: f3
     ensures { λ r. ⌜ r ≡ superVoice wave f ratio srf phase ⌝ }
 {
     let dt = f * ratio / srf;
-    let next = float::wrap(phase + dt);
+    let next = rounding::wrap(phase + dt);
     match wave {
         dsl::SuperWave::Sawtooth => Phased {
             out: saw_at(phase, dt),

@@ -11,8 +11,8 @@ use lib.Ieee.Fits.{up-pos, down-pos, neg-fits}
 use Rattle.ieee.proofs.Tests.{null, two-to}
 use Rattle.ieee.proofs.Value.{zero-exp}
 use Rattle.ieee.proofs.Whole.{div-is}
-use Rattle.float.specs.Whole.{half, wholeOf, roundOf}
-use Rattle.float.proofs.Laws.{above, half-one}
+use Rattle.rounding.specs.Whole.{half, wholeOf, roundOf}
+use Rattle.rounding.proofs.Laws.{above, half-one}
 use Rattle.double.specs.Double.{_⊖_, _⊗_, _⊘_, bits, one, two}
 use Rattle.trig.specs.Trig.{fracPi2, quadrantOf, sinPoly, cosPoly, turned, sinReduced}
 
@@ -67,7 +67,7 @@ module _ (m : ℕ) (e : ℤ) (F : T (fits binary64 (fin false m e))) (p : 0 < m 
 -- a negative one is rounded by its size
 rounded-below : (m : ℕ) (e : ℤ) (x : Float) → 0 < m * up e → roundOf binary64 (fin false m e) ≡ x → roundOf binary64 (fin true m e) ≡ neg x
 unfolding lt neg
-rounded-below m e x p h = sym (Rattle.float.proofs.Laws.turned binary64 half half (fin true m e) (lt→ltb 0 (m * up e * 1 + 0 * 1 * down e) (go (m * up e) (down e) p))) ∙ ap neg h
+rounded-below m e x p h = sym (Rattle.rounding.proofs.Laws.turned binary64 half half (fin true m e) (lt→ltb 0 (m * up e * 1 + 0 * 1 * down e) (go (m * up e) (down e) p))) ∙ ap neg h
   where
     go : (a d : ℕ) → 0 < a → 0 < a * 1 + 0 * 1 * d
     go a d h = omega arith

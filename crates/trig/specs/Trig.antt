@@ -3,7 +3,7 @@ use Prim.Native.Nat.{ℕ, zero, suc, _-_, _%_}
 use mathlib.Core.List.{List, [], _∷_}
 use lib.IntN.{ℤ, pos, negsuc}
 use lib.Ieee.{Float, binary64, neg, ofInt, toSigned}
-use Rattle.float.specs.Whole.{roundOf}
+use Rattle.rounding.specs.Whole.{roundOf}
 use Rattle.double.specs.Double.{_⊕_, _⊖_, _⊗_, _⊘_, bits, half, one, horner}
 
 -- 2π in three parts, the double nearest to it and what that drops: 6.283185307179586, 2.44929359829470641445e-16, 1.74968224062658175647e-32

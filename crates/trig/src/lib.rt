@@ -70,7 +70,7 @@ pub fn reduce_2pi(x: f64) -> f64
             return ((x - 1.0 * PI2_HI) - 1.0 * PI2_MID) - 1.0 * PI2_LO;
         }
     }
-    let k = float::round_f64(y);
+    let k = rounding::round_f64(y);
     ((x - k * PI2_HI) - k * PI2_MID) - k * PI2_LO
 }
 
@@ -97,7 +97,7 @@ fn turn(k: u64, a: f64) -> f64
 fn sin_turned(r: f64) -> f64
     ensures { λ v. ⌜ v ≡ sinReduced r ⌝ }
 {
-    let q = float::round_f64(r / FRAC_PI_2);
+    let q = rounding::round_f64(r / FRAC_PI_2);
     let a = r - double::whole_by_i64(q) * FRAC_PI_2;
     turn(quadrant(double::whole_to_i64(q)), a)
 }

@@ -6,7 +6,7 @@ use lib.IntN.{pos}
 use lib.ListN.{getD}
 use lib.Dec.{ltb}
 use lib.Ieee.{Float, nan, binary32, neg, lt, ofBits, ofInt, toUnsigned}
-use Rattle.float.specs.Whole.{roundOf}
+use Rattle.rounding.specs.Whole.{roundOf}
 use Rattle.float.specs.Order.{clampOf}
 use Rattle.float.specs.Single.{_⊕_, _⊖_, _⊗_, _⊘_, zero, half, one, tau}
 use Rattle.dsp.specs.Math.{cosine}

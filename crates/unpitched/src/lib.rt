@@ -42,7 +42,7 @@ pub fn impact_width(hardness: f32, srf: f32) -> u64
     ensures { λ r. ⌜ r ≡ impactWidth hardness srf ⌝ }
 {
     let h = float::clamp(hardness, 0.0, 1.0);
-    lines::at_least_one(cast::f32_to_u64(float::round((0.008 * (1.0 - h) + 0.0003 * h) * srf)))
+    lines::at_least_one(cast::f32_to_u64(rounding::round((0.008 * (1.0 - h) + 0.0003 * h) * srf)))
 }
 
 pub fn impact_norm(velocity: f32, w: u64) -> f32

@@ -6,7 +6,7 @@ use lib.Dec.{eqb}
 use lib.ListN.{length, getD}
 use lib.IntN.{pos}
 use lib.Ieee.{Float, nan, binary32, lt, ofBits, ofInt, toUnsigned}
-use Rattle.float.specs.Whole.{fractOf}
+use Rattle.rounding.specs.Whole.{fractOf}
 use Rattle.float.specs.Order.{maxOf, clampOf}
 use Rattle.float.specs.Single.{_⊕_, _⊖_, _⊗_, _⊘_, zero as zeroF, one}
 use Rattle.dsp.specs.Math.{power}

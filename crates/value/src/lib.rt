@@ -112,7 +112,7 @@ pub fn slide(curve: dsl::Curve, from: f32, to: f32, secs: f32, srf: f32, t: u64)
 pub fn lfo_phase(rate: f32, srf: f32, t: u64) -> f32
     ensures { λ r. ⌜ r ≡ lfoPhase rate srf t ⌝ }
 {
-    float::fract(seconds(t, srf) * rate)
+    rounding::fract(seconds(t, srf) * rate)
 }
 
 pub fn lfo(shape: dsl::Shape, rate: f32, depth: f32, center: f32, srf: f32, t: u64) -> f32

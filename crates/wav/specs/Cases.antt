@@ -1,7 +1,7 @@
 -- Worked cases of a sample's 16 bits, by computation.
 use mathlib.Core.Path.{_≡_, refl}
 use lib.Ieee.{nan, binary32, ofBits, neg, mul, lt, ofInt, toSigned}
-use Rattle.float.specs.Whole.{wholeOf}
+use Rattle.rounding.specs.Whole.{wholeOf}
 use Rattle.float.specs.Order.{clampOf}
 use Rattle.wav.specs.Wav.{pcm16Of}
 

@@ -4,7 +4,7 @@ use Prim.Native.Nat.{ℕ, zero, suc, _+_, _-_, _*_, _/_, _%_}
 use mathlib.Core.List.{List, [], _∷_, _++_}
 use lib.IntN.{ℤ, pos, negsuc}
 use lib.Ieee.{Float, binary32, ofBits, neg, toSigned}
-use Rattle.float.specs.Whole.{roundOf}
+use Rattle.rounding.specs.Whole.{roundOf}
 use Rattle.float.specs.Order.{clampOf}
 use Rattle.float.specs.Single.{_⊗_, one}
 

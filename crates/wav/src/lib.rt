@@ -56,7 +56,7 @@ fn signed16(y: f32) -> u16
 pub fn pcm16(x: f32) -> u16
     ensures { λ r. ⌜ r ≡ pcm16Of x ⌝ }
 {
-    signed16(float::round(float::clamp(x, -1.0, 1.0) * 32767.0))
+    signed16(rounding::round(float::clamp(x, -1.0, 1.0) * 32767.0))
 }
 
 // The samples' bytes, at the start of out.

@@ -11,7 +11,7 @@ use lib.Ieee.{Float, nan, inf, fin, Format, prec, up, down, fits, neg, lt, ofInt
 use lib.Ieee.Positive.{num, den}
 use Rattle.ieee.proofs.Tests.{null, two-to, yes, no}
 use Rattle.ieee.proofs.Value.{fits-lt, fits-odd, zero-exp, same-value, whole-value}
-use Rattle.float.specs.Whole.{wholeOf, cut, ceil, half}
+use Rattle.rounding.specs.Whole.{wholeOf, cut, ceil, half}
 
 -- ---- what is whole
 abbrev pub broken : Float → Bool

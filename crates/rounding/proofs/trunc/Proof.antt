@@ -1,4 +1,4 @@
--- `float::trunc` meets its contract. Assumes nothing.
+-- `rounding::trunc` meets its contract. Assumes nothing.
 use mathlib.Core.Path.{_≡_, sym, ap, _∙_, subst}
 use mathlib.Core.Bool.{not}
 use lib.Dec.{T}
@@ -6,10 +6,10 @@ use lib.Ieee.{Float, binary32, fits, lt, neg}
 use lib.Ieee.Fits.{neg-fits}
 use borrow.Author.Needs.{needs}
 use Rattle.ieee.proofs.Tests.{yes, no, zero-32}
-use Rattle.float.specs.Whole.{cut, ceil}
-use Rattle.float.proofs.Laws.{turned, upward, not-below}
-use Rattle.float.proofs.trunc.Statement.{statement}
-use Rattle.float.proofs.trunc.Tie as tie
+use Rattle.rounding.specs.Whole.{cut, ceil}
+use Rattle.rounding.proofs.Laws.{turned, upward, not-below}
+use Rattle.rounding.proofs.trunc.Statement.{statement}
+use Rattle.rounding.proofs.trunc.Tie as tie
 
 held : (c : tie.Start) → T (fits binary32 (c .args .x))
 held c = subst T (sym (c .good .0 .1)) tt

@@ -1,11 +1,11 @@
--- `float::round_above` meets its contract. Assumes nothing.
+-- `rounding::round_above` meets its contract. Assumes nothing.
 use mathlib.Core.Path.{_≡_, sym, subst}
 use lib.Dec.{T}
 use lib.Ieee.{binary32, fits}
 use Rattle.ieee.proofs.Tests.{yes, no, two-23, one-32, half-32}
 use Rattle.ieee.proofs.Whole.{half-raise, half-stays}
-use Rattle.float.proofs.round_above.Statement.{statement}
-use Rattle.float.proofs.round_above.Tie as tie
+use Rattle.rounding.proofs.round_above.Statement.{statement}
+use Rattle.rounding.proofs.round_above.Tie as tie
 
 held : (c : tie.Start) → T (fits binary32 (c .args .y))
 held c = subst T (sym (c .good .0 .1)) tt

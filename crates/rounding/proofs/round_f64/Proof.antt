@@ -1,12 +1,12 @@
--- `float::round_f64` meets its contract. Assumes nothing.
+-- `rounding::round_f64` meets its contract. Assumes nothing.
 use mathlib.Core.Path.{_≡_, sym, subst}
 use lib.Dec.{T}
 use lib.Ieee.{binary64, fits}
 use Rattle.ieee.proofs.Tests.{zero-64, two-52}
-use Rattle.float.specs.Whole.{half}
-use Rattle.float.proofs.Laws.{half-one, asks-above, asks-below, gives-above, gives-below, ends-above, ends-below, ends-level}
-use Rattle.float.proofs.round_f64.Statement.{statement}
-use Rattle.float.proofs.round_f64.Tie as tie
+use Rattle.rounding.specs.Whole.{half}
+use Rattle.rounding.proofs.Laws.{half-one, asks-above, asks-below, gives-above, gives-below, ends-above, ends-below, ends-level}
+use Rattle.rounding.proofs.round_f64.Statement.{statement}
+use Rattle.rounding.proofs.round_f64.Tie as tie
 
 held : (c : tie.Start) → T (fits binary64 (c .args .x))
 held c = subst T (sym (c .good .0 .1)) tt

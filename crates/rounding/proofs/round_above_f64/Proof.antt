@@ -1,11 +1,11 @@
--- `float::round_above_f64` meets its contract. Assumes nothing.
+-- `rounding::round_above_f64` meets its contract. Assumes nothing.
 use mathlib.Core.Path.{_≡_, sym, subst}
 use lib.Dec.{T}
 use lib.Ieee.{binary64, fits}
 use Rattle.ieee.proofs.Tests.{yes, no, two-52, one-64, half-64}
 use Rattle.ieee.proofs.Whole.{half-raise, half-stays}
-use Rattle.float.proofs.round_above_f64.Statement.{statement}
-use Rattle.float.proofs.round_above_f64.Tie as tie
+use Rattle.rounding.proofs.round_above_f64.Statement.{statement}
+use Rattle.rounding.proofs.round_above_f64.Tie as tie
 
 held : (c : tie.Start) → T (fits binary64 (c .args .y))
 held c = subst T (sym (c .good .0 .1)) tt

@@ -1,13 +1,13 @@
--- `float::wrap` meets its contract. Assumes nothing.
+-- `rounding::wrap` meets its contract. Assumes nothing.
 use mathlib.Core.Path.{_≡_, refl, sym, subst}
 use lib.Dec.{T}
 use lib.Ieee.{Float, binary32, fits, lt, ofBits}
 use borrow.Author.Needs.{needs}
 use Rattle.ieee.proofs.Tests.{two-to, yes, no, zero-32, one-32}
-use Rattle.float.specs.Whole.{ceil}
-use Rattle.float.proofs.Phase.{first-period, second-period, one-above, two-32}
-use Rattle.float.proofs.wrap.Statement.{statement}
-use Rattle.float.proofs.wrap.Tie as tie
+use Rattle.rounding.specs.Whole.{ceil}
+use Rattle.rounding.proofs.Phase.{first-period, second-period, one-above, two-32}
+use Rattle.rounding.proofs.wrap.Statement.{statement}
+use Rattle.rounding.proofs.wrap.Tie as tie
 
 held : (c : tie.Start) → T (fits binary32 (c .args .x))
 held c = subst T (sym (c .good .0 .1)) tt

@@ -1,12 +1,12 @@
--- `float::floor` meets its contract. Assumes nothing.
+-- `rounding::floor` meets its contract. Assumes nothing.
 use mathlib.Core.Path.{_≡_, sym, subst}
 use lib.Dec.{T}
 use lib.Ieee.{binary32, fits}
 use Rattle.ieee.proofs.Tests.{zero-32, two-23}
-use Rattle.float.specs.Whole.{ceil, cut}
-use Rattle.float.proofs.Laws.{ceil-one, cut-one, asks-above, asks-below, gives-above, gives-below, ends-above, ends-below, ends-level}
-use Rattle.float.proofs.floor.Statement.{statement}
-use Rattle.float.proofs.floor.Tie as tie
+use Rattle.rounding.specs.Whole.{ceil, cut}
+use Rattle.rounding.proofs.Laws.{ceil-one, cut-one, asks-above, asks-below, gives-above, gives-below, ends-above, ends-below, ends-level}
+use Rattle.rounding.proofs.floor.Statement.{statement}
+use Rattle.rounding.proofs.floor.Tie as tie
 
 held : (c : tie.Start) → T (fits binary32 (c .args .x))
 held c = subst T (sym (c .good .0 .1)) tt

@@ -12,8 +12,8 @@ use lib.Ieee.Positive.{num, den, den-pos}
 use Rattle.ieee.proofs.Tests.{null, two-to, yes, no}
 use Rattle.ieee.proofs.Value.{lt-values, sub-values, value-self, two-to-value}
 use Rattle.ieee.proofs.Whole.{div-is, own}
-use Rattle.float.specs.Whole.{wholeOf, cut}
-use Rattle.float.proofs.Laws.{above, cut-one}
+use Rattle.rounding.specs.Whole.{wholeOf, cut}
+use Rattle.rounding.proofs.Laws.{above, cut-one}
 
 -- a smaller bound
 pub lt-two-to : (x : Float) (v w : ℕ) → T (lt null x) → v ≤ w → T (lt x (two-to v)) → T (lt x (two-to w))

@@ -1,12 +1,12 @@
--- `float::round` meets its contract. Assumes nothing.
+-- `rounding::round` meets its contract. Assumes nothing.
 use mathlib.Core.Path.{_≡_, sym, subst}
 use lib.Dec.{T}
 use lib.Ieee.{binary32, fits}
 use Rattle.ieee.proofs.Tests.{zero-32, two-23}
-use Rattle.float.specs.Whole.{half}
-use Rattle.float.proofs.Laws.{half-one, asks-above, asks-below, gives-above, gives-below, ends-above, ends-below, ends-level}
-use Rattle.float.proofs.round.Statement.{statement}
-use Rattle.float.proofs.round.Tie as tie
+use Rattle.rounding.specs.Whole.{half}
+use Rattle.rounding.proofs.Laws.{half-one, asks-above, asks-below, gives-above, gives-below, ends-above, ends-below, ends-level}
+use Rattle.rounding.proofs.round.Statement.{statement}
+use Rattle.rounding.proofs.round.Tie as tie
 
 held : (c : tie.Start) → T (fits binary32 (c .args .x))
 held c = subst T (sym (c .good .0 .1)) tt
