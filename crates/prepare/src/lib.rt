@@ -2,7 +2,7 @@
 ghost use Prim.Native.Nat.{_≤_, _<_};
 ghost use lib.ListN.{length};
 ghost use Rattle.sheet.specs.Links.{Rows};
-ghost use Rattle.tables.specs.Tables.{Prepared};
+ghost use Rattle.prepare.specs.Prepared.{Prepared};
 
 // The refusal's number, or 0, and then the number of records and how much scratch they need.
 pub struct Ready {

@@ -1,4 +1,4 @@
-// The values for one sample. What depends on the sheet alone (Slide's floored secs, the release's start, Rand's increment) is
+// The values for one sample. What depends on the sheet alone (Slide's floored secs, the release's start) is
 // worked out by functions of their own, once per block.
 ghost use mathlib.Core.Path.{_≡_};
 ghost use Prim.Native.Nat.{_<_, _%_};

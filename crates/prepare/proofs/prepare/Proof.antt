@@ -5,7 +5,7 @@ use mathlib.Core.Bool.{true, false}
 use Rattle.sheet.specs.Checks.{checkOf}
 use Rattle.tables.specs.declared.Needed.{Needed}
 use Rattle.tables.specs.Answer.{needed-check, needed-all}
-use Rattle.tables.specs.Tables.{room-checked, sheet-checked}
+use Rattle.prepare.specs.Prepared.{room-checked, sheet-checked}
 use borrow.Author.Needs.{needs}
 use Rattle.prepare.proofs.prepare.Statement.{statement}
 use Rattle.prepare.proofs.prepare.Tie as tie
