@@ -1,17 +1,17 @@
-//! Links static libraries of the port, which `rt staticlib NAME` builds.
+//! Links static libraries of the port, each of which `rt lib` builds in its crate's folder.
 
 use std::env;
 use std::path::PathBuf;
 
 pub fn link(names: &[&str]) {
-    let here = PathBuf::from(env::var("CARGO_MANIFEST_DIR").unwrap());
-    let folder = match env::var("BENCH_LIB") {
-        Ok(folder) => PathBuf::from(folder),
-        Err(_) => here.join("../../target/staticlib"),
-    };
+    let crates = PathBuf::from(env::var("CARGO_MANIFEST_DIR").unwrap()).join("../../crates");
     println!("cargo:rerun-if-env-changed=BENCH_LIB");
-    println!("cargo:rustc-link-search=native={}", folder.display());
     for name in names {
+        let folder = match env::var("BENCH_LIB") {
+            Ok(folder) => PathBuf::from(folder),
+            Err(_) => crates.join(name).join("out"),
+        };
+        println!("cargo:rustc-link-search=native={}", folder.display());
         println!("cargo:rerun-if-changed={}", folder.join(format!("lib{name}.a")).display());
         println!("cargo:rustc-link-lib=static={name}");
     }

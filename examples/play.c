@@ -1,8 +1,9 @@
 /*
  * Plays a voice for four seconds, with moves between fills of 64, 7 and 300 samples, and writes a WAV file.
  *
- *     rt staticlib library
- *     cc -O2 -I include examples/play.c target/staticlib/liblibrary.a -lm -o target/play_c
+ *     (cd crates/library && rt lib)
+ *     mkdir -p target
+ *     cc -O2 -I include examples/play.c crates/library/out/liblibrary.a -lm -o target/play_c
  *     target/play_c examples/supersaw_pad.sheet > pad.wav
  */
 #include "player.h"

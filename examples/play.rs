@@ -1,7 +1,8 @@
 //! Plays a voice for four seconds, with moves between fills of 64, 7 and 300 samples, and writes a WAV file.
 //!
-//!     rt staticlib library
-//!     rustc --edition 2021 -O -L target/staticlib examples/play.rs -o target/play_rs
+//!     (cd crates/library && rt lib)
+//!     mkdir -p target
+//!     rustc --edition 2021 -O -L crates/library/out examples/play.rs -o target/play_rs
 //!     target/play_rs examples/supersaw_pad.sheet > pad.wav
 //!
 //! The calls are those of include/player.h, which says what each does and what a caller owes.

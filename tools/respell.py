@@ -498,6 +498,16 @@ NAMES = dict(line.split() for line in """
     withScratch with_scratch
     wrapOf wrap_of
     zeroF zero_f
+    expm1Small expm1_small
+    ln2Hi ln2_hi
+    ln2Lo ln2_lo
+    log10Of log10_of
+    pcm16Of pcm16_of
+    pi2Hi pi2_hi
+    pi2Lo pi2_lo
+    pi2Mid pi2_mid
+    u16At u16_at
+    u64At u64_at
 """.split("\n") if line.strip())
 
 NAME = re.compile(r"(?<![\w'·-])(" + "|".join(sorted(map(re.escape, NAMES), key=len, reverse=True)) + r")(?![\w'·-])")

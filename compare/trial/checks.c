@@ -2,8 +2,9 @@
  * How little time the checks of a fill take in C, where nothing is proved: tables in static memory that nobody zeroes, indices
  * that nobody checks, and checks 3 to 6 in one pass over the records. docs/SPEED.md says what the figures are for.
  *
- *     rt staticlib library
- *     cc -O3 -I include compare/trial/checks.c target/staticlib/liblibrary.a -lm -o target/checks
+ *     (cd crates/library && rt lib)
+ *     mkdir -p target
+ *     cc -O3 -I include compare/trial/checks.c crates/library/out/liblibrary.a -lm -o target/checks
  *     target/checks SHEET...
  *
  * For each sheet: nanoseconds of the checks here, and of a fill of no samples by the port, which makes the same checks and tables.

@@ -1,11 +1,13 @@
 // The filters' coefficients of effects.rs, each equal to its definition in specs/, operation by operation.
+#![tactic(auto)]
+
 ghost use Rattle.std.specs.Prelude.{◌≡◌};
 ghost use Rattle.biquad.specs.Biquad.{gain_of, root_of, six, normal, lowpass, highpass, bandpass, notched, peaking, low_shelf, high_shelf, cookbook, angle_of, alpha_of, coeffs_of, biquad_of};
 ghost use Rattle.sqrt.specs.Sqrt.{sqrt_of};
 
 const TAU: f32 = 6.2831855;
 
-#[derive(Drop)]
+#[derive(Clone, Copy)]
 pub enum FilterKind {
     Low,
     High,
@@ -18,7 +20,7 @@ pub enum FilterKind {
 }
 
 // What the filter kernel runs on.
-#[derive(Drop)]
+#[derive(Clone, Copy)]
 pub struct Coefficients {
     pub b0: f32,
     pub b1: f32,

@@ -268,6 +268,7 @@ module _ {T C R A : Type 0} (P : Patch T C R A) where
 
     -- the records that run are of the patch
     in_source : (i : ℕ) → i < P.count → (j : ℕ) → In j (node i (from (P.first i)) nil) → j < P.count
+    in_source i h j (rest x4) = elim x4 [ ]
     in_source i h j here = h
     in_source i h j (kid p) = whole-all P.first P.next (λ k. k < P.count) (λ k l. ok.first_in k) (λ k l. ok.next_in k) P.count (P.first i) (ok.first_in i) p
 

@@ -1,4 +1,6 @@
 // What every crate of blocks uses. The theory of blocks stands in specs/.
+#![tactic(auto)]
+
 ghost use Rattle.std.specs.Prelude.{◌≡◌, map};
 
 // A block is at most this many samples.

@@ -1,4 +1,6 @@
 // The samples of a fill, with the buffers that they are worked out in.
+#![tactic(auto)]
+
 ghost use Rattle.std.specs.Prelude.{◌≡◌, true, length};
 ghost use Rattle.control.specs.Moves.{left_for};
 ghost use Rattle.streaming.specs.Run.{Set, Blocked};

@@ -16,8 +16,8 @@ use Rattle.unit.specs.Own.{silence}
 use Rattle.unit.specs.State.{rings_ok}
 use Rattle.walk.specs.Walk.{voiced, Sound}
 use Rattle.machine.specs.Machine.{State, state, sound_ok, room_check, fill_check, samples, Answered, cleared, fill_of, scaled}
-use Rattle.machine.specs.Laws.{room-enough, room-passed}
-use Rattle.machine.specs.Valid.{rings-all}
+use Rattle.machine.proofs.Laws.{room-enough, room-passed}
+use Rattle.machine.proofs.Valid.{rings-all}
 use Rattle.machine.specs.Build.{build_of, started_cells, started_registers}
 use Rattle.control.specs.Moves.{fresh}
 use Rattle.streaming.specs.Run.{Set, Blocked}

@@ -1,4 +1,6 @@
 // The calls of the player on an accepted sheet, with its tables lent to them.
+#![tactic(auto)]
+
 ghost use Rattle.std.specs.Prelude.{◌≡◌, length, false};
 ghost use Rattle.sheet.specs.Record.{count_of};
 ghost use Rattle.layout.specs.Needs.{scratch_from};
@@ -8,7 +10,7 @@ ghost use Rattle.calls.specs.Calls.{Fills, Builds};
 
 // The answer and the controls after a call.
 #[repr(C)]
-#[derive(Drop)]
+#[derive(Clone, Copy)]
 pub struct Answer {
     pub answer: u8,
     pub controls: control::Controls,

@@ -1,11 +1,13 @@
 // Check 6, by the tables: what the chain of each record is made of.
+#![tactic(auto)]
+
 ghost use Rattle.std.specs.Prelude.{◌≡◌, true, ◌<◌, eqb, length};
 ghost use Rattle.sheet.specs.Checks.{all, every};
 ghost use Rattle.sheet.specs.Codes.{class_of, want_of, chains_table, classes_table};
 ghost use Rattle.sheet.specs.Links.{LinkedIn, along_in, chain_in};
 
 // The chain of a record: whether each member is of a class, and how many there are where each is.
-#[derive(Drop)]
+#[derive(Clone, Copy)]
 struct Tally {
     all: bool,
     count: usize,

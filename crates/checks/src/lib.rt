@@ -1,4 +1,6 @@
 // Checks 1 to 7 of document 01 in their order: 1 and 2 are here, the others in `records` and `shape`.
+#![tactic(auto)]
+
 ghost use Rattle.std.specs.Prelude.{◌≡◌, ◌≤◌, length};
 ghost use Rattle.sheet.specs.Checks.{check_of, length_ok, header_ok};
 ghost use Rattle.sheet.specs.Links.{Rows, Checked};

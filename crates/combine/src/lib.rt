@@ -1,4 +1,6 @@
 // Mix and Mul for one sample, over the samples of their inputs.
+#![tactic(auto)]
+
 ghost use Rattle.std.specs.Prelude.{◌≡◌};
 ghost use Rattle.combine.specs.Combine.{mix_of, mul_of};
 

@@ -1,10 +1,12 @@
 // The player's controls and the moves of pitch and bend, which never refuse.
+#![tactic(auto)]
+
 ghost use Rattle.std.specs.Prelude.{◌≡◌};
 ghost use Rattle.control.specs.Moves.{fresh, glided, glide_of, pitch_moved, bend_moved, left_for};
 
 // How long the voice has sounded, in samples; the pitch's multiplier, where it glides to and by which part per sample; the bend.
 #[repr(C)]
-#[derive(Drop)]
+#[derive(Clone, Copy)]
 pub struct Controls {
     pub position: u64,
     pub pitch: f32,

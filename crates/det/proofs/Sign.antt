@@ -17,7 +17,7 @@ use Rattle.ieee.proofs.Value.{zero_exp}
 use Rattle.ieee.proofs.Whole.{either}
 use Rattle.cast.proofs.Normal.{signed, neg-neg, neg-number}
 use Rattle.double.specs.Double.{one, horner}
-use Rattle.exp.specs.Exp.{expm1Small}
+use Rattle.exp.specs.Exp.{expm1_small}
 use Rattle.det.specs.Tanh.{tanh_above, tanh_of}
 
 -- ---- a pattern below 2 ^ 63 has no sign
@@ -55,7 +55,7 @@ unfolding tanh_of
 as-below u n l = rw (n, zero-64, l, neg-neg)
 
 minus-zero : tanh_above null (neg one) ≡ tanh_above (fin true 0 (pos 0)) one
-unfolding tanh_above expm1Small horner of_bits of_int neg add mul div lt
+unfolding tanh_above expm1_small horner of_bits of_int neg add mul div lt
 minus-zero = refl
 
 both : (u : Float) → T (fits binary64 u) → T (unsigned u) → is_nan u ≡ false → (tanh_above u one ≡ tanh_of u) × (tanh_above u (neg one) ≡ tanh_of (neg u))

@@ -3,7 +3,7 @@ use Rattle.std.specs.Prelude.{◌-◌, true, false, cond, ◌||◌, List, [], �
 use Rattle.std.specs.Float.{nan, inf, fin, binary64}
 use Rattle.std.specs.Float.Ieee.{size, lt, eq, is_nan, of_int}
 use Rattle.double.specs.Double.{◌⊕◌, ◌⊖◌, ◌⊗◌, ◌⊘◌, bits, zero, half, one, two, horner}
-use Rattle.exp.specs.Exp.{ln2Hi, ln2Lo, exp_of}
+use Rattle.exp.specs.Exp.{ln2_hi, ln2_lo, exp_of}
 
 -- k and m of an x above zero: x = m * 2 ^ k with 1 ≤ m < 2. An infinity counts as 2 ^ 1024, which its bit pattern would be.
 unfoldable pub exponent_of : Float → ℤ
@@ -33,7 +33,7 @@ ln_series m k =
     let w = z ⊗ z in
     let r = z ⊗ horner w ln_odd ⊕ w ⊗ horner w ln_even in
     let hfsq = half ⊗ f ⊗ f in
-    k ⊗ ln2Hi ⊕ (f ⊖ (hfsq ⊖ (s ⊗ (hfsq ⊕ r) ⊕ k ⊗ ln2Lo)))
+    k ⊗ ln2_hi ⊕ (f ⊖ (hfsq ⊖ (s ⊗ (hfsq ⊕ r) ⊕ k ⊗ ln2_lo)))
 
 -- √2, 1.4142135623730951
 abbrev pub sqrt2 : Float
@@ -67,5 +67,5 @@ pow_of x y = cond (eq y zero) one (cond (eq x zero) (cond (lt zero y) zero (inf 
 abbrev pub ten : Float
 ten = bits 0x4024_0000_0000_0000
 
-unfoldable pub log10Of : Float → Float
-log10Of x = ln_of x ⊘ ln_of ten
+unfoldable pub log10_of : Float → Float
+log10_of x = ln_of x ⊘ ln_of ten

@@ -1,11 +1,12 @@
 // det.rs: ln, pow, log10 and tanh. f64 arithmetic alone, in one order, with fdlibm's coefficients; no call of the C library,
 // so the results are the same everywhere. A constant stands as the Rust writes it.
+#![tactic(auto)]
 
 ghost use Rattle.std.specs.Prelude.{◌≡◌, not, pos, T};
 ghost use Rattle.std.specs.Int.Signed.{lt_z};
 ghost use Rattle.std.specs.Float.Ieee as Ieee;
 ghost use Rattle.cast.specs.Narrow.{narrow_of};
-ghost use Rattle.det.specs.Log.{exponent_of, mantissa_of, min_positive, ln_series, ln_folded, ln_of, pow_of, ten, log10Of};
+ghost use Rattle.det.specs.Log.{exponent_of, mantissa_of, min_positive, ln_series, ln_folded, ln_of, pow_of, ten, log10_of};
 ghost use Rattle.det.specs.Tanh.{tanh_above, tanh_of};
 
 // ---- ln, pow, log10
@@ -140,7 +141,7 @@ pub fn pow10(y: f64) -> f64
 }
 
 pub fn log10(x: f64) -> f64
-    ensures { result ≡ log10Of x }
+    ensures { result ≡ log10_of x }
 {
     ln(x) / LN_10
 }
@@ -211,7 +212,7 @@ pub fn tanhf(x: f32) -> f32
 }
 
 pub fn log10f(x: f32) -> f32
-    ensures { result ≡ narrow_of (log10Of x) }
+    ensures { result ≡ narrow_of (log10_of x) }
 {
     cast::f64_to_f32(log10(cast::f32_to_f64(x)))
 }

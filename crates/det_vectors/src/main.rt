@@ -1,13 +1,20 @@
 // Holds each kernel to the answers of det.rs, which compare/answers wrote, and prints a line for each: its cases, how many
 // of them differ, and the first of those.
+#![tactic(auto)]
+
 mod kernels;
 
 use kernels::{KERNELS, answer};
+use std::io;
 
-fn main() {
-    let mut run = vectors::begin(KERNELS);
+fn main(rt: HostRuntime) -> io::Result<()> {
+    let mut input = rt.stdin();
+    let mut output = rt.stdout();
+    let mut run = vectors::begin(&mut input, &mut output, KERNELS)?;
     while run.left > 0 {
         let operands = run.operands;
-        run = vectors::with_answer(run, answer(run.place, operands));
+        let got = answer(run.place, operands);
+        run = vectors::with_answer(&mut input, &mut output, run, got)?;
     }
+    Ok(())
 }

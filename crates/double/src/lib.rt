@@ -1,5 +1,6 @@
 // f64: whole numbers to integers. Rattle's own cast, one instruction, takes those below 2^52 in size, once -0.0 is made
 // 0.0 by adding 0.0; the saturating cast takes the rest.
+#![tactic(auto)]
 
 ghost use Rattle.std.specs.Prelude.{◌≡◌, ◌%◌};
 ghost use Rattle.std.specs.Float.Ieee as Ieee;

@@ -1,4 +1,6 @@
 // The waveshapers of effects.rs, each equal to its definition in specs/, operation by operation.
+#![tactic(auto)]
+
 ghost use Rattle.std.specs.Prelude.{◌≡◌, true, cond};
 ghost use Rattle.std.specs.Float.Ieee.{lt};
 ghost use Rattle.float.specs.Order.{is_finite};

@@ -1,9 +1,11 @@
 // Drive for one sample: values in, a struct of the sample and the new state out.
+#![tactic(auto)]
+
 ghost use Rattle.std.specs.Prelude.{◌≡◌};
 ghost use Rattle.drive_step.specs.Drive.{driven, drive_by, drive_step, drive_plain, average_of, blocked};
 ghost use Rattle.drive.specs.Drive.{drive_of};
 
-#[derive(Drop)]
+#[derive(Clone, Copy)]
 pub struct Drive {
     pub x_prev: f32,
     pub f_prev: f32,
@@ -11,7 +13,7 @@ pub struct Drive {
     pub dc_y: f32,
 }
 
-#[derive(Drop)]
+#[derive(Clone, Copy)]
 pub struct DriveOut {
     pub out: f32,
     pub drive: Drive,
@@ -58,7 +60,7 @@ pub fn drive_by(shape: dsl::DriveShape, xn: f32, f: f32, s: Drive) -> DriveOut
 }
 
 // Where the curve was asked for last, and what it gave.
-#[derive(Drop)]
+#[derive(Clone, Copy)]
 pub struct Curved {
     pub x: f32,
     pub y: f32,
@@ -104,13 +106,13 @@ fn averaged_after(
     }
 }
 
-#[derive(Drop)]
+#[derive(Clone, Copy)]
 pub struct DriveCurved {
     pub average: f32,
     pub held: Curved,
 }
 
-#[derive(Drop)]
+#[derive(Clone, Copy)]
 pub struct DriveHeld {
     pub step: DriveOut,
     pub held: Curved,

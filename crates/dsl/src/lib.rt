@@ -1,8 +1,10 @@
 // The choices that a node or a value has, in the Rust's order, which is the order of the sheet's option numbers.
+#![tactic(auto)]
+
 ghost use Rattle.std.specs.Prelude.{◌≡◌};
 ghost use Rattle.dsl.specs.Options.{shape_of, curve_of, drive_shape_of, noise_color_of, super_wave_of};
 
-#[derive(Drop)]
+#[derive(Clone, Copy)]
 pub enum Shape {
     Sine,
     Square,
@@ -10,27 +12,27 @@ pub enum Shape {
     Saw,
 }
 
-#[derive(Drop)]
+#[derive(Clone, Copy)]
 pub enum Curve {
     Lin,
     Exp,
 }
 
-#[derive(Drop)]
+#[derive(Clone, Copy)]
 pub enum DriveShape {
     Tanh,
     Hard,
     Fold,
 }
 
-#[derive(Drop)]
+#[derive(Clone, Copy)]
 pub enum NoiseColor {
     White,
     Pink,
     Brown,
 }
 
-#[derive(Drop)]
+#[derive(Clone, Copy)]
 pub enum SuperWave {
     Sawtooth,
     Square,

@@ -6,8 +6,8 @@ use Rattle.rounding.specs.Whole.{whole_of}
 use Rattle.cast.specs.Narrow.{narrow_of}
 use Rattle.trig.specs.Trig.{sin_of, cos_of}
 use Rattle.double.specs.Double.{horner}
-use Rattle.exp.specs.Exp.{power_of_two, exp_poly, exp_of, expm1Small}
-use Rattle.det.specs.Log.{ln_of, pow_of, log10Of}
+use Rattle.exp.specs.Exp.{power_of_two, exp_poly, exp_of, expm1_small}
+use Rattle.det.specs.Log.{ln_of, pow_of, log10_of}
 use Rattle.det.specs.Tanh.{tanh_above, tanh_of}
 use Rattle.float.specs.Single.{◌⊕◌, zero, one}
 
@@ -34,7 +34,7 @@ abbrev pub tangent : Float → Float
 tangent x = narrow_of (tanh_of x)
 
 tanh-zero : tanh_of zero ≡ zero
-unfolding tanh_of tanh_above expm1Small of_int is_nan neg exp_of exp_poly power_of_two horner whole_of of_bits to_signed lt add sub mul div
+unfolding tanh_of tanh_above expm1_small of_int is_nan neg exp_of exp_poly power_of_two horner whole_of of_bits to_signed lt add sub mul div
 tanh-zero = refl
 
 pub tangent-zero : tangent zero ≡ zero
@@ -42,7 +42,7 @@ unfolding narrow_of of_bits round
 tangent-zero = ap narrow_of tanh-zero
 
 abbrev pub logarithm10 : Float → Float
-logarithm10 x = narrow_of (log10Of x)
+logarithm10 x = narrow_of (log10_of x)
 
 -- ln (1 + x), with the sum rounded
 abbrev pub logarithm1p : Float → Float

@@ -1,4 +1,6 @@
 // det.rs's functions under dsp.rs's names, and the coefficients of dsp.rs.
+#![tactic(auto)]
+
 ghost use Rattle.std.specs.Prelude.{◌≡◌, map};
 ghost use Rattle.std.specs.Float.Ieee as Ieee;
 ghost use Rattle.std.specs.Float.{binary32};
@@ -90,7 +92,7 @@ pub fn one_pole(secs: f32, sr: f32) -> f32
     exp(-1.0 / (secs * sr))
 }
 
-#[derive(Drop)]
+#[derive(Clone, Copy)]
 pub struct Follower {
     pub at: f32,
     pub rt: f32,
@@ -111,7 +113,7 @@ const TAU: f32 = 6.28318530717958647692528676655900577;
 const NEG_LN_1000: f32 = -6.907_755;
 
 // A mode's resonator: y = b0 x + a1 y' + a2 y''.
-#[derive(Drop)]
+#[derive(Clone, Copy)]
 pub struct Resonator {
     pub a1: f32,
     pub a2: f32,

@@ -1,4 +1,6 @@
 // The envelope of dsp.rs.
+#![tactic(auto)]
+
 ghost use Rattle.std.specs.Prelude.{◌≡◌};
 ghost use Rattle.envelope.specs.Envelope.{through, level, adsr_of};
 

@@ -6,11 +6,11 @@ use Rattle.rounding.specs.Whole.{round_of}
 use Rattle.double.specs.Double.{◌⊖◌, ◌⊗◌, ◌⊘◌, bits, zero, one, two, horner}
 
 -- ln 2 in two parts, 6.93147180369123816490e-01 and 1.90821492927058770002e-10; 1 / ln 2, 1.4426950408889634
-abbrev pub ln2Hi : Float
-ln2Hi = bits 0x3fe6_2e42_fee0_0000
+abbrev pub ln2_hi : Float
+ln2_hi = bits 0x3fe6_2e42_fee0_0000
 
-abbrev pub ln2Lo : Float
-ln2Lo = bits 0x3dea_39ef_3579_3c76
+abbrev pub ln2_lo : Float
+ln2_lo = bits 0x3dea_39ef_3579_3c76
 
 abbrev pub inv_ln2 : Float
 inv_ln2 = bits 0x3ff7_1547_652b_82fe
@@ -47,12 +47,12 @@ exp_min = bits 0xc087_4910_d52d_3050
 unfoldable pub exp_of : Float → Float
 exp_of x =
     let k = round_of binary64 (x ⊗ inv_ln2) in
-    cond (lt exp_max x) (inf false) (cond (lt x exp_min) zero (exp_poly (x ⊖ k ⊗ ln2Hi ⊖ k ⊗ ln2Lo) ⊗ power_of_two (to_signed 63 k)))
+    cond (lt exp_max x) (inf false) (cond (lt x exp_min) zero (exp_poly (x ⊖ k ⊗ ln2_hi ⊖ k ⊗ ln2_lo) ⊗ power_of_two (to_signed 63 k)))
 
 -- 1 / n
 abbrev pub per : ℕ → Float
 per n = one ⊘ of_int binary64 (pos n)
 
 -- e ^ x - 1 near 0: x / 1! + x ^ 2 / 2! + .. + x ^ 11 / 11!
-unfoldable pub expm1Small : Float → Float
-expm1Small x = x ⊗ horner x (one ∷ per 2 ∷ per 6 ∷ per 24 ∷ per 120 ∷ per 720 ∷ per 5040 ∷ per 40320 ∷ per 362880 ∷ per 3628800 ∷ per 39916800 ∷ [])
+unfoldable pub expm1_small : Float → Float
+expm1_small x = x ⊗ horner x (one ∷ per 2 ∷ per 6 ∷ per 24 ∷ per 120 ∷ per 720 ∷ per 5040 ∷ per 40320 ∷ per 362880 ∷ per 3628800 ∷ per 39916800 ∷ [])

@@ -1,11 +1,12 @@
 // det.rs: exp. f64 arithmetic alone, in one order, with fdlibm's coefficients; no call of the C library, so the results are
 // the same everywhere. A constant stands as the Rust writes it.
+#![tactic(auto)]
 
 ghost use Rattle.std.specs.Prelude.{◌≡◌, false, pos, negsuc, T};
 ghost use Rattle.std.specs.Float.Ieee as Ieee;
 ghost use Rattle.std.specs.Float.{fin};
 ghost use Rattle.cast.specs.Narrow.{narrow_of};
-ghost use Rattle.exp.specs.Exp.{power_of_two, exp_poly, exp_of, expm1Small};
+ghost use Rattle.exp.specs.Exp.{power_of_two, exp_poly, exp_of, expm1_small};
 
 pub const LN2_HI: f64 = 6.93147180369123816490e-01;
 
@@ -144,7 +145,7 @@ const INV_FACT_11: f64 = 1.0 / 39916800.0;
 
 // e^x - 1 near 0: the series x^1/1! + .. + x^11/11!, which does not cancel.
 pub fn expm1_small(x: f64) -> f64
-    ensures { result ≡ expm1Small x }
+    ensures { result ≡ expm1_small x }
 {
     let a = INV_FACT_9 + x * (INV_FACT_10 + x * INV_FACT_11);
     let b = INV_FACT_5 + x * (INV_FACT_6 + x * (INV_FACT_7 + x * (INV_FACT_8 + x * a)));

@@ -1,6 +1,8 @@
 // Checks 3 and 4 of one record.
+#![tactic(auto)]
+
 ghost use Rattle.std.specs.Prelude.{◌≡◌, ◌+◌, ◌-◌, ◌*◌, ◌≤◌, min, eqb, length};
-ghost use Rattle.sheet.specs.Bytes.{byte_at, u64At};
+ghost use Rattle.sheet.specs.Bytes.{byte_at, u64_at};
 ghost use Rattle.sheet.specs.Checks.{all, record_ok, link_ok};
 ghost use Rattle.sheet.specs.Codes.{options_table, numbers_table};
 ghost use Rattle.sheet.specs.Links.{links_at};
@@ -8,7 +10,7 @@ ghost use Rattle.sheet.specs.Links.{links_at};
 // Numbers k and k + 1 of the record as one word.
 fn pair(r: &[u8], k: usize) -> u64
     requires { (40 ≤ length r.now) × (k ≤ 6) }
-    ensures { result ≡ u64At r.now (8 + 4 * k) }
+    ensures { result ≡ u64_at r.now (8 + 4 * k) }
 {
     sheet::double(r, 8 + 4 * k)
 }

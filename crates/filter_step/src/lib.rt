@@ -1,9 +1,11 @@
 // The filter for one sample: values in, a struct of the sample and the new state out.
+#![tactic(auto)]
+
 ghost use Rattle.std.specs.Prelude.{◌≡◌};
 ghost use Rattle.filter_step.specs.Filter.{tuned, biquad_step, filter_of};
 
 // A filter's eleven cells, in the sheet's order.
-#[derive(Drop)]
+#[derive(Clone, Copy)]
 pub struct Filter {
     pub scale: f32,
     pub prev_f: f32,
@@ -18,7 +20,7 @@ pub struct Filter {
     pub y2: f32,
 }
 
-#[derive(Drop)]
+#[derive(Clone, Copy)]
 pub struct FilterOut {
     pub out: f32,
     pub filter: Filter,

@@ -1,4 +1,6 @@
 // A block of a filter's record, of Drive's or of Compress's, in place, on the cells that the record owns.
+#![tactic(auto)]
+
 ghost use Rattle.std.specs.Prelude.{◌≡◌, List, [], ◌∷◌, ℕ, ◌≤◌, length};
 ghost use Rattle.float.specs.Order.{max_of};
 ghost use Rattle.float.specs.Single.{one};

@@ -1,17 +1,17 @@
 -- The remainder within two periods of 0. Assumes nothing.
 use mathlib.Core.Path.{◌≡◌, refl, sym, ap, ◌∙◌, subst}
-use mathlib.Core.Bool.{Bool, true, false, not, ◌&&◌, cond, beq, true≢false}
+use mathlib.Core.Bool.{Bool, true, false, not, true≢false}
 use Prim.Native.Nat.{ℕ, zero, suc, ◌+◌, ◌-◌, ◌*◌, ◌/◌, ◌%◌, ◌^◌, ◌≤◌, ◌<◌}
 use native.Mathlib.Nat.{le_of_lt, le_trans, lt_of_le_of_lt, lt_irrefl, mul-pos, mul_comm, mul_right_comm, mul_assoc, mod-eq_of_lt, zero-mul, mul-one, one-mul, zero-lt-suc}
 use native.Mathlib.Omega.{arith}
-use lib.IntN.{ℤ, pos, negsuc}
-use lib.Dec.{T, ltb, eqb, ltb→lt, lt→ltb, nltb→le, eqb→eq, T_not, not_T}
+use lib.IntN.{ℤ}
+use lib.Dec.{T, ltb, eqb, ltb→lt, nltb→le, eqb→eq, not_T}
 use lib.Arith.{le→nltb}
-use lib.Ieee.{Float, nan, inf, fin, Format, binary32, prec, emax, low, up, down, fits, is_nan, neg, lt, eq, le, round, units, odd, sum, add, sub, rem}
-use lib.Ieee.Fits.{up_pos, down_pos, round_is, neg-fits}
+use lib.Ieee.{Float, nan, inf, fin, Format, prec, emax, low, up, down, fits, neg, lt, le, round, units, odd, sum, add, sub, rem}
+use lib.Ieee.Fits.{down_pos, round_is}
 use lib.Ieee.Exact.{HasValue, odd_sign}
 use lib.Ieee.Order.{round_mono}
-use Rattle.ieee.proofs.Tests.{null, yes, no, is_true, is_false, cond_yes, cond_no}
+use Rattle.ieee.proofs.Tests.{null, yes, no, is_true, is_false, cond_no}
 use Rattle.ieee.proofs.Value.{value-self}
 use Rattle.ieee.proofs.Read.{nothing-below}
 use Rattle.float.specs.Order.{abs_of}
@@ -19,7 +19,7 @@ use Rattle.float.specs.Euclid.{rem_euclid_of}
 use Rattle.float.proofs.Order.{lt-asym, le-no-lt}
 
 -- ---- sizes on a common denominator
-pos-first : (n u d : ℕ) → 0 < n * u * d → T (not (eqb n 0))
+pub pos-first : (n u d : ℕ) → 0 < n * u * d → T (not (eqb n 0))
 pos-first zero u d h = absurd (lt_irrefl 0 (subst (λ (z : ℕ). 0 < z) (ap (λ (z : ℕ). z * d) (zero-mul u) ∙ zero-mul d) h))
 pos-first (suc n) u d h = not_T (eqb (suc n) 0) (λ t. none n (eqb→eq (suc n) 0 t))
   where

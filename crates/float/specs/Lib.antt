@@ -2,3 +2,4 @@ pub mod Order
 pub mod Euclid
 pub mod Single
 pub mod Cases
+pub mod Remainder

@@ -1,9 +1,12 @@
 // The leaves of document 01 on floats, apart from the rounding ones: size and order, the remainder, bit patterns.
-ghost use Rattle.std.specs.Prelude.{◌≡◌, true, false, ◌+◌, ◌-◌, ◌/◌, pos};
+#![tactic(auto)]
+
+ghost use Rattle.std.specs.Prelude.{◌≡◌, true, false, ◌+◌, ◌-◌, ◌*◌, ◌/◌, ◌%◌, ◌^◌, ◌<◌, ◌≤◌, pos};
 ghost use Rattle.std.specs.Float.Ieee as Ieee;
 ghost use Rattle.std.specs.Float.{fin, binary32, binary64};
 ghost use Rattle.float.specs.Order.{abs_of, is_finite, max_of, min_of, clamp_of};
 ghost use Rattle.float.specs.Euclid.{rem_euclid_of};
+ghost use Rattle.float.specs.Remainder.{digits_of};
 
 // ---- size and order
 
@@ -95,7 +98,110 @@ pub fn clamp(x: f32, lo: f32, hi: f32) -> f32
     if x > hi { hi } else { x }
 }
 
-// Rust's rem_euclid. Within two periods of 0 one sum serves: x % y rounds the same exact number. `%` calls the C library.
+// ---- the remainder
+
+// The digits of a float above zero, by its bit pattern: it is these times 2 ^ `power` of the smallest f32.
+fn digits(b: u64) -> u64
+    ensures { result ≡ digits_of b }
+{
+    let low = b & 0x7f_ffff;
+    if b >> 23 == 0 {
+        return low;
+    }
+    low | 0x80_0000
+}
+
+fn power(b: u64) -> u64
+    ensures { result ≡ b / 2 ^ 23 - 1 }
+{
+    let field = b >> 23;
+    if field == 0 {
+        return 0;
+    }
+    field - 1
+}
+
+// The remainder of a * 2^n by m, forty digits at a time.
+fn rem_shifted(a: u64, n: u64, m: u64) -> u64
+    requires { (a < 2 ^ 24) × (0 < m) × (m < 2 ^ 24) }
+    ensures { result ≡ a * 2 ^ n % m }
+{
+    let mut r = a;
+    let mut left = n;
+    while 40 <= left {
+        r = (r << 40) % m;
+        left -= 40;
+    }
+    (r << left) % m
+}
+
+// q * 2^k of the smallest f32: q is doubled until it has 24 digits.
+fn scaled(q: u64, k: u64) -> f32
+    requires { (q < 2 ^ 24) × (k ≤ 253) }
+    ensures { result ≡ Ieee.round binary32 false (q * 2 ^ k) (2 ^ 149) }
+{
+    let mut p = q;
+    let mut l = k;
+    while l > 0 {
+        if p >= 8388608 {
+            return ieee::from_units(l, p);
+        }
+        p = p + p;
+        l -= 1;
+    }
+    ieee::from_units(0, p)
+}
+
+// The remainder of a * 2^i of the smallest f32 by b * 2^j of it.
+fn rem_units(a: u64, i: u64, b: u64, j: u64) -> f32
+    requires { (a < 2 ^ 24) × (i ≤ 253) × (0 < b) × (b < 2 ^ 24) × (j ≤ 253) }
+    ensures { result ≡ Ieee.round binary32 false (a * 2 ^ i % (b * 2 ^ j)) (2 ^ 149) }
+{
+    if j <= i {
+        return scaled(rem_shifted(a, i - j, b), j);
+    }
+    let d = j - i;
+    if d < 24 {
+        return scaled(a % (b << d), i);
+    }
+    scaled(a, i)
+}
+
+// Of two above zero.
+fn rem_above(x: f32, y: f32) -> f32
+    requires { (Ieee.lt (fin false 0 (pos 0)) x ≡ true) × (Ieee.lt (fin false 0 (pos 0)) y ≡ true) }
+    ensures { result ≡ Ieee.rem binary32 x y }
+{
+    let a = f32::to_bits(x) as u64;
+    let b = f32::to_bits(y) as u64;
+    if a >> 23 == 255 {
+        return 0.0 / 0.0;
+    }
+    if b >> 23 == 255 {
+        return x;
+    }
+    rem_units(digits(a), power(a), digits(b), power(b))
+}
+
+// Rust's `%` of two f32: x less a whole number of times y, with x's sign, and exact. It is taken by whole numbers of the
+// smallest f32, since `%` on floats calls the C library.
+pub fn rem(x: f32, y: f32) -> f32
+    ensures { result ≡ Ieee.rem binary32 x y }
+{
+    let z = abs(y);
+    if z > 0.0 {
+        if x > 0.0 {
+            return rem_above(x, z);
+        }
+        if x < 0.0 {
+            return -rem_above(-x, z);
+        }
+        return x;
+    }
+    0.0 / 0.0
+}
+
+// Rust's rem_euclid. Within two periods of 0 one sum serves: the remainder rounds the same exact number.
 pub fn rem_euclid(x: f32, y: f32) -> f32
     ensures { result ≡ rem_euclid_of binary32 x y }
 {
@@ -113,7 +219,7 @@ pub fn rem_euclid(x: f32, y: f32) -> f32
             return x + y;
         }
     }
-    let r = x % y;
+    let r = rem(x, y);
     if r < 0.0 { r + abs(y) } else { r }
 }
 

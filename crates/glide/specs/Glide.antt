@@ -11,7 +11,8 @@ use Rattle.control.specs.declared.Controls.{Controls}
 use Rattle.float.specs.Single.{◌⊗◌}
 use Rattle.control.specs.Moves.{glided, moved, risen, bent}
 use Rattle.unit.specs.Block.{Pitched, moment}
-use Rattle.machine.specs.Samples.{tick, later-moved, later-position}
+use Rattle.machine.specs.Samples.{tick}
+use Rattle.machine.proofs.Samples.{later-moved, later-position}
 
 -- ---- the loop that works out what the sources read for the pitch
 later_more : (n : ℕ) (c : Controls) → later tick (n + 1) c ≡ tick (later tick n c)

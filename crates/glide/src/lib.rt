@@ -1,4 +1,6 @@
 // The pitch of each sample of a block, by the controls: it glides, or it stays.
+#![tactic(auto)]
+
 ghost use Rattle.std.specs.Prelude.{◌≡◌, ◌+◌, ◌^◌, ◌≤◌, ◌<◌, length};
 ghost use Rattle.tree.specs.Comm.{later};
 ghost use Rattle.control.specs.Moves.{glided, moved, risen};

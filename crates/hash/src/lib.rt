@@ -1,4 +1,6 @@
 // FNV-1a with 64 bits over words and floats, each a word, and over what a voice leaves.
+#![tactic(auto)]
+
 ghost use Rattle.std.specs.Prelude.{◌≡◌};
 ghost use Rattle.hash.specs.Hash.{mixed, hashed, same, bits_of, state_of};
 

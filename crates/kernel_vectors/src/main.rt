@@ -1,5 +1,7 @@
 // Holds each kernel of a sample to the answers of the Rust's own code, which compare/answers wrote, and prints a line for
 // each: its cases, how many of their answers differ, and the first of those. The kernels are in the order of the file.
+#![tactic(auto)]
+
 mod of_dsp;
 mod of_filters;
 mod of_lines;
@@ -8,6 +10,8 @@ mod of_render;
 mod of_source;
 mod of_value;
 mod words;
+
+use std::io;
 
 // Where each crate's kernels end.
 const DSP: u8 = 13;
@@ -41,10 +45,14 @@ fn answer(place: u8, which: u8, x: [u64; 20]) -> u64 {
     of_proc::answer(place - SOURCE, which, x)
 }
 
-fn main() {
-    let mut run = vectors::begin(PROC);
+fn main(rt: HostRuntime) -> io::Result<()> {
+    let mut input = rt.stdin();
+    let mut output = rt.stdout();
+    let mut run = vectors::begin(&mut input, &mut output, PROC)?;
     while run.left > 0 {
         let operands = run.operands;
-        run = vectors::with_answer(run, answer(run.place, run.which, operands));
+        let got = answer(run.place, run.which, operands);
+        run = vectors::with_answer(&mut input, &mut output, run, got)?;
     }
+    Ok(())
 }

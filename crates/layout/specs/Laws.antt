@@ -8,7 +8,7 @@ use Rattle.sheet.specs.Checks.{check_of}
 use Rattle.layout.specs.Built.{role, is_played, begin, after}
 use Rattle.layout.specs.Needs.{cells, registers, scratch, cells_from, registers_from, scratch_from}
 use Rattle.layout.specs.Good.{good}
-use Rattle.layout.specs.Played.{played_tree, played-forest, begin-in, after-in, after-root, played-apart, played-in, in-played}
+use Rattle.layout.specs.Played.{played_tree}
 use Rattle.layout.specs.Counts.{layout_of, rows_of, sum-above, cells-within, registers-within, scratch-within}
 
 -- ---- what is played, and where its parts lie
@@ -28,21 +28,3 @@ pub record Playable (s : List ℕ) : Type 0 where
   pub scratch_end : (j : ℕ) → j < count_of s → scratch_from s j + scratch s j ≤ scratch_from s (count_of s)
   -- a record's block of scratch lies below those of all higher records
   pub scratch_apart : (i j : ℕ) → i < j → scratch_from s i + scratch s i ≤ scratch_from s j
-
-pub playable : (s : List ℕ) → check_of s ≡ 0 → Playable s
-playable s e = let g = good s e in record {
-  some = g.some;
-  small = g.small;
-  forest = played-forest s g;
-  begin_low = begin-in s g;
-  after_low = after-in s g;
-  alone = after-root s g;
-  apart = played-apart s g;
-  all_in = played-in s g;
-  none_else = λ j p. in-played s g p;
-  rows = rows_of s;
-  cells_end = cells-within s;
-  registers_end = registers-within s;
-  scratch_end = scratch-within s;
-  scratch_apart = λ i j h. sum-above (scratch s) j i h;
-}

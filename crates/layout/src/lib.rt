@@ -1,5 +1,7 @@
 // What a sheet that the checks accept is built into: which records are built, how what is played is linked, and where each
 // record's parts lie (specs/). The code here counts what several crates count.
+#![tactic(auto)]
+
 ghost use Rattle.std.specs.Prelude.{◌≡◌, ◌≤◌, ◌<◌, min, max, length};
 ghost use Rattle.sheet.specs.Record.{next};
 ghost use Rattle.sheet.specs.Tree.{records, spine};

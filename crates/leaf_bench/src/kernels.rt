@@ -2,8 +2,8 @@
 ghost use Rattle.std.specs.Prelude.{◌≡◌};
 ghost use Rattle.cast.specs.Narrow.{narrow_of};
 ghost use Rattle.trig.specs.Trig.{sin_poly, cos_poly, reduce2pi, sin_of, cos_of};
-ghost use Rattle.exp.specs.Exp.{power_of_two, exp_of, expm1Small};
-ghost use Rattle.det.specs.Log.{ln_of, pow_of, log10Of};
+ghost use Rattle.exp.specs.Exp.{power_of_two, exp_of, expm1_small};
+ghost use Rattle.det.specs.Log.{ln_of, pow_of, log10_of};
 ghost use Rattle.det.specs.Tanh.{tanh_of};
 
 #[unsafe(no_mangle)]
@@ -50,7 +50,7 @@ pub extern "C" fn det_exp(x: f64) -> f64
 
 #[unsafe(no_mangle)]
 pub extern "C" fn det_expm1_small(x: f64) -> f64
-    ensures { result ≡ expm1Small x }
+    ensures { result ≡ expm1_small x }
 {
     exp::expm1_small(x)
 }
@@ -64,7 +64,7 @@ pub extern "C" fn det_ln(x: f64) -> f64
 
 #[unsafe(no_mangle)]
 pub extern "C" fn det_log10(x: f64) -> f64
-    ensures { result ≡ log10Of x }
+    ensures { result ≡ log10_of x }
 {
     det::log10(x)
 }
@@ -120,7 +120,7 @@ pub extern "C" fn det_lnf(x: f32) -> f32
 
 #[unsafe(no_mangle)]
 pub extern "C" fn det_log10f(x: f32) -> f32
-    ensures { result ≡ narrow_of (log10Of x) }
+    ensures { result ≡ narrow_of (log10_of x) }
 {
     det::log10f(x)
 }

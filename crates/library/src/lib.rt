@@ -1,4 +1,6 @@
 // The player's calls under C names, for a program in C or Rust to link. A slice is a pointer and a length to the caller.
+#![tactic(auto)]
+
 ghost use Rattle.std.specs.Prelude.{◌≡◌, length};
 ghost use Rattle.control.specs.Moves.{pitch_moved, bend_moved};
 ghost use Rattle.tables.specs.Answer.{needed_of};

@@ -1,4 +1,6 @@
 // The processors that read and write a line, over a block, in place. The line's place stays below its length.
+#![tactic(auto)]
+
 ghost use Rattle.std.specs.Prelude.{◌≡◌, ◌+◌, ◌^◌, ◌≤◌, ◌<◌, length};
 ghost use Rattle.block.specs.Iterate.{given, after};
 ghost use Rattle.line_block.specs.Steps.{delay_step, chorus_step, chorus_by_step};

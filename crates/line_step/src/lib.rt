@@ -1,22 +1,24 @@
 // Delay, Chorus and the combs and allpasses of Reverb for one sample: what the line held goes in, what is written to it comes out.
+#![tactic(auto)]
+
 ghost use Rattle.std.specs.Prelude.{◌≡◌, ◌%◌, ◌<◌};
 ghost use Rattle.line_step.specs.Line.{delay_of, next_place, comb_of, allpass_of, reverb_mix, chorus_place, chorus_read, chorus_of};
 
-#[derive(Drop)]
+#[derive(Clone, Copy)]
 pub struct CombOut {
     pub out: f32,
     pub store: f32,
     pub line: f32,
 }
 
-#[derive(Drop)]
+#[derive(Clone, Copy)]
 pub struct AllpassOut {
     pub out: f32,
     pub line: f32,
 }
 
 // Two places of the line and how far between them.
-#[derive(Drop)]
+#[derive(Clone, Copy)]
 pub struct ChorusRead {
     pub i0: u64,
     pub i1: u64,

@@ -1,3 +1,5 @@
+#![tactic(auto)]
+
 ghost use Rattle.std.specs.Prelude.{◌≡◌, false, ℕ, ◌≤◌, max, length, pos, T};
 ghost use Rattle.std.specs.Float.{fin, binary32};
 ghost use Rattle.std.specs.Float.Ieee.{mul, div, lt};

@@ -1,30 +1,29 @@
 // Lists the sheet on standard input: how many records it has, its first eight samples and their peak, or the number that it is refused by.
+#![tactic(auto)]
+
 ghost use Rattle.std.specs.Prelude.{◌≡◌};
 ghost use Rattle.listing.specs.Peak.{higher_of, peak_of};
 
-use libc::{STDIN_FILENO, STDOUT_FILENO};
+use console::{read_full, say, say_count, say_hex};
+use std::io;
+use std::io::Write;
 
-fn say(text: &[u8]) {
-    io::write_all(STDOUT_FILENO, text);
+fn refused(output: &mut impl Write, answer: u8) -> io::Result<()> {
+    say_count(output, b"refused ", answer as u64)
 }
 
-fn refused(answer: u8) {
-    say(b"refused ");
-    io::print_decimal(STDOUT_FILENO, answer as u64);
-    say(b"\n");
+fn say_sample(output: &mut impl Write, x: f32) -> io::Result<()> {
+    say_hex(output, float::to_bits(x) as u64, 8)?;
+    say(output, b"\n")
 }
 
-fn say_sample(x: f32) {
-    io::print_hex(STDOUT_FILENO, float::to_bits(x) as u64, 8);
-    say(b"\n");
-}
-
-fn say_samples(out: &[f32]) {
+fn say_samples(output: &mut impl Write, out: &[f32]) -> io::Result<()> {
     let mut k: usize = 0;
     while k < out.len() {
-        say_sample(out[k]);
+        say_sample(output, out[k])?;
         k += 1;
     }
+    Ok(())
 }
 
 // The larger of the two; a NaN is passed over.
@@ -47,13 +46,11 @@ fn peak(out: &[f32]) -> f32
     p
 }
 
-fn report(records: usize, out: &[f32]) {
-    say(b"records ");
-    io::print_decimal(STDOUT_FILENO, records as u64);
-    say(b"\n");
-    say_samples(out);
-    say(b"peak ");
-    say_sample(peak(out));
+fn report(output: &mut impl Write, records: usize, out: &[f32]) -> io::Result<()> {
+    say_count(output, b"records ", records as u64)?;
+    say_samples(output, out)?;
+    say(output, b"peak ")?;
+    say_sample(output, peak(out))
 }
 
 // An accepted sheet has 24 bytes and 40 for each record.
@@ -61,27 +58,31 @@ fn records(n: usize) -> usize {
     if n < 24 { 0 } else { (n - 24) / 40 }
 }
 
-fn list(sheet: &[u8], cells: &mut [f32], regs: &mut [u64], scr: &mut [f32]) {
+fn list(
+    output: &mut impl Write,
+    sheet: &[u8],
+    cells: &mut [f32],
+    regs: &mut [u64],
+    scr: &mut [f32],
+) -> io::Result<()> {
     let mut out = [0.0f32; 8];
     let b = player::build(sheet, control::fresh_controls(), cells, regs, scr);
     if b.answer != 0 {
-        refused(b.answer);
-        return;
+        return refused(output, b.answer);
     }
     let f = player::fill(sheet, b.controls, &mut out, cells, regs, scr);
     if f.answer != 0 {
-        refused(f.answer);
-        return;
+        return refused(output, f.answer);
     }
-    report(records(sheet.len()), &out);
+    report(output, records(sheet.len()), &out)
 }
 
 // The buffer is longer than any sheet, so an input that is too long stays so.
-fn main() {
-    let mut buf = io::large_buffer();
-    let n = io::read_full(STDIN_FILENO, &mut buf);
+fn main(rt: HostRuntime) -> io::Result<()> {
+    let mut buf = [0u8; 65536];
+    let n = read_full(&mut rt.stdin(), &mut buf)?;
     let mut cells = [0.0f32; 8192];
     let mut regs = [0u64; 256];
     let mut scr = [0.0f32; 2048];
-    list(&buf[..n], &mut cells, &mut regs, &mut scr);
+    list(&mut rt.stdout(), &buf[..n], &mut cells, &mut regs, &mut scr)
 }

@@ -1,4 +1,6 @@
 // The sample machine as a definition stands in specs/; here is check 8.
+#![tactic(auto)]
+
 ghost use Rattle.std.specs.Prelude.{◌≡◌, ◌&&◌, leb};
 
 // Whether as much is lent of each as is needed.

@@ -1,4 +1,6 @@
 // Mix and Mul over a block, on their part of the scratch.
+#![tactic(auto)]
+
 ghost use Rattle.std.specs.Prelude.{◌≡◌, map, ◌+◌, ◌≤◌, length};
 ghost use Rattle.tree.specs.Comm.{zip};
 ghost use Rattle.unit.specs.Voice.{join_of, empty_of};

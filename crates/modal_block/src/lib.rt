@@ -1,4 +1,6 @@
 // Modal over a block: the modes stay in the record's own cells.
+#![tactic(auto)]
+
 ghost use Rattle.std.specs.Prelude.{◌≡◌, ◌+◌, ◌*◌, ◌≤◌, ◌<◌, List, length, Float};
 ghost use Rattle.std.specs.Float.{nan};
 ghost use Rattle.block.specs.Iterate.{given, after};
@@ -8,7 +10,7 @@ ghost use Rattle.modal_block.specs.Modal.{mode_at, put_mode, modal_step};
 ghost use Rattle.modal_block.specs.Modes.{four_at, put_four, blend_four, four_modes};
 
 // Four samples.
-#[derive(Drop)]
+#[derive(Clone, Copy)]
 pub struct Four {
     pub a: f32,
     pub b: f32,

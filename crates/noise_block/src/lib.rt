@@ -1,21 +1,23 @@
 // White, pink and brown noise and Dust over a block: what the one-sample kernel gives, sample after sample, with the state in locals.
+#![tactic(auto)]
+
 ghost use Rattle.std.specs.Prelude.{◌≡◌, ◌+◌, ◌<◌, length};
 ghost use Rattle.block.specs.Iterate.{given, after};
 ghost use Rattle.noise_block.specs.Steps.{white_step, pink_state, pink_step, brown_step, dust_step};
 
-#[derive(Drop)]
+#[derive(Clone, Copy)]
 pub struct Pink {
     pub word: u64,
     pub poles: unpitched::Poles,
 }
 
-#[derive(Drop)]
+#[derive(Clone, Copy)]
 pub struct Brown {
     pub word: u64,
     pub last: f32,
 }
 
-#[derive(Drop)]
+#[derive(Clone, Copy)]
 pub struct Dust {
     pub word: u64,
     pub y: f32,

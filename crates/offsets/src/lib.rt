@@ -1,4 +1,6 @@
 // What the built records of an accepted sheet need, and where each one's parts begin.
+#![tactic(auto)]
+
 ghost use Rattle.std.specs.Prelude.{◌≡◌, true, false, ◌+◌, ◌*◌, ◌≤◌, ◌<◌, length};
 ghost use Rattle.sheet.specs.Record.{kind, first, next};
 ghost use Rattle.layout.specs.Built.{role};
@@ -6,7 +8,7 @@ ghost use Rattle.layout.specs.Needs.{noise_cells, reverb_cells, cells_by};
 ghost use Rattle.layout.specs.Tables.{Table, Passed, role_code};
 ghost use Rattle.layout.specs.Counts.{cells_with, registers_with, scratch_with, Bare, Unowning, Placed};
 
-#[derive(Drop)]
+#[derive(Clone, Copy)]
 pub struct Needs {
     pub cells: u64,
     pub registers: u64,

@@ -1,4 +1,6 @@
 // The kernels of osc.rs, each equal to its definition in specs/, operation by operation.
+#![tactic(auto)]
+
 ghost use Rattle.std.specs.Prelude.{◌≡◌};
 ghost use Rattle.osc.specs.Osc.{poly_blep, osc_of};
 

@@ -1,18 +1,20 @@
 // The oscillators over a block: what the one-sample kernel gives, sample after sample, with the state in locals. f, duty and index are
 // buffers of the values, pitch that of the pitch times the bend.
+#![tactic(auto)]
+
 ghost use Rattle.std.specs.Prelude.{◌≡◌, ◌+◌, ◌≤◌, ◌<◌, length};
 ghost use Rattle.block.specs.Iterate.{given, after};
 ghost use Rattle.osc_block.specs.Steps.{sine_step, sine_argument_step, square_step, saw_step, triangle_step, fm_step, modulator_step, carrier_step};
 
 const TAU: f32 = 6.2831855;
 
-#[derive(Drop)]
+#[derive(Clone, Copy)]
 pub struct Triangle {
     pub phase: f32,
     pub tri: f32,
 }
 
-#[derive(Drop)]
+#[derive(Clone, Copy)]
 pub struct Fm {
     pub cph: f32,
     pub mph: f32,

@@ -4,7 +4,7 @@ use Rattle.std.proofs.Math.Path.{refl, sym, ap}
 use Rattle.std.proofs.Common.{◌∙◌, inl, inr, arith, eq-eqb, ne_eqb, length-set, get_or-set_same, get_or-set_other}
 use Prim.Native.Nat.{ℕ, zero, suc, ◌+◌, ◌≤◌, ◌<◌}
 use Rattle.std.proofs.Math.Decide.{ℕ_discrete}
-use Rattle.rng.specs.Random.{path_of as childPath}
+use Rattle.rng.specs.Random.{path_of as child_path}
 use Rattle.sheet.specs.Record.{count_of, path_of, first, next}
 use Rattle.layout.specs.Built.{linker, owner}
 use Rattle.layout.specs.Good.{Good, good}
@@ -32,9 +32,9 @@ path-none s (suc n) j e = rw (eq-eqb j 0 e)
 
 path-step : (s : List ℕ) (n m j : ℕ) → path_by s n (owner s j) ≡ path_by s m (owner s j) → path_by s (suc n) j ≡ path_by s (suc m) j
 unfolding path_by
-path-step s n m j e = ap (λ p. cond (eqb j 0) (path_of s) (childPath p (place s j))) e
+path-step s n m j e = ap (λ p. cond (eqb j 0) (path_of s) (child_path p (place s j))) e
 
-path-more : (s : List ℕ) (n j : ℕ) → j ≢ 0 → path_by s (suc n) j ≡ childPath (path_by s n (owner s j)) (place s j)
+path-more : (s : List ℕ) (n j : ℕ) → j ≢ 0 → path_by s (suc n) j ≡ child_path (path_by s n (owner s j)) (place s j)
 unfolding path_by
 path-more s n j d = rw (ne_eqb j 0 d)
 
@@ -90,12 +90,12 @@ module _ (s : List ℕ) (g : Good s) where
   unfolding path
   path-root = path-none s 0 0 refl
 
-  pub path-in : (j : ℕ) → j ≢ 0 → j < count_of s → path s j ≡ childPath (path s (owner s j)) (place s j)
+  pub path-in : (j : ℕ) → j ≢ 0 → j < count_of s → path s j ≡ child_path (path s (owner s j)) (place s j)
   unfolding path
   path-in zero d h = absurd (d refl)
   path-in (suc j) d h =
       let b = owner-below s g (suc j) d h in
-      path-more s j (suc j) d ∙ ap (λ p. childPath p (place s (suc j))) (path-enough j (owner s (suc j)) (owner s (suc j)) (omega arith) (omega arith) (omega arith))
+      path-more s j (suc j) d ∙ ap (λ p. child_path p (place s (suc j))) (path-enough j (owner s (suc j)) (owner s (suc j)) (omega arith) (omega arith) (omega arith))
 
 -- ---- the places of the records that the links of those below i lead to
 abbrev pub Placing : List ℕ → ℕ → ℕ → List ℕ → Type 0
@@ -157,7 +157,7 @@ module _ (s : List ℕ) (n : ℕ) (a : Passed s n) where
   root_is w e = e ∙ sym (path-root s accepted)
 
   pub paths-turn : (owned places paths : List ℕ) → Table (owner s) n owned → Table (place s) n places → (j : ℕ) → 0 < j → j < n → n ≤ length paths → Below (path s) j paths
-      → (v : ℕ) → v ≡ childPath (get_or paths (get_or owned j 0) 0) (get_or places j 0) → Below (path s) (j + 1) (set paths j v)
+      → (v : ℕ) → v ≡ child_path (get_or paths (get_or owned j 0) 0) (get_or places j 0) → Below (path s) (j + 1) (set paths j v)
   paths-turn owned places paths wo wp j z h l w v e =
       let d : j ≢ 0 = omega arith in
       let o = owner-entry s n a owned wo j d h in

@@ -1,4 +1,6 @@
 // Where each record stands in the tree, as a word that seeds its generator. The sheet itself is read for the root's word only: it says what the tables hold.
+#![tactic(auto)]
+
 ghost use Rattle.std.specs.Prelude.{◌≤◌, length};
 ghost use Rattle.sheet.specs.Record.{first, next};
 ghost use Rattle.layout.specs.Built.{owner};

@@ -13,7 +13,7 @@ use Rattle.control.specs.Moves.{pitch_moved, bend_moved}
 use Rattle.sheet.specs.Checks.{sum}
 use Rattle.sheet.specs.Laws.{both, never, sum-suc}
 use Rattle.machine.specs.Machine.{State, state, room_check, fill_check, fill_of, cutoff_of, controlled, Call, fill, pitch, bend, cutoff, call, machine}
-use Rattle.machine.specs.Samples.{samples-length}
+use Rattle.machine.proofs.Samples.{samples-length}
 use Rattle.calls.specs.Calls.{Fills, Cuts}
 
 -- a call of a list, from its kind and numbers

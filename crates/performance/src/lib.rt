@@ -1,8 +1,13 @@
 // A performance: a list of calls, made one after another with the player's own calls on the same sheet, controls and lent memory.
+#![tactic(auto)]
+
 ghost use Rattle.std.specs.Prelude.{◌≡◌, leb, ◌≤◌, length};
 ghost use Rattle.tree.specs.Block.{tab};
 ghost use Rattle.sheet.specs.Checks.{sum};
 ghost use Rattle.performance.specs.List.{call_of, Called, took_of, call_at, length_at, fitting, Plays, Performed};
+
+// The kind of a pitch move, as `call_of` numbers the calls.
+const PITCH: u8 = 1;
 
 // One call: kind 0 is a fill of out, 1 a pitch move to x by g, 2 a bend move to x, any other a cutoff move to x.
 fn one_call(
@@ -21,7 +26,7 @@ fn one_call(
     if kind == 0 {
         return player::fill(sheet, c, out, cells, regs, scr);
     }
-    if kind == 1 {
+    if kind == PITCH {
         return calls::Answer {
             answer: 0,
             controls: player::pitch(c, x, g),
@@ -124,7 +129,7 @@ fn fits(kinds: usize, xs: usize, gs: usize, lens: &[usize], answers: usize, out:
 }
 
 // Whether the calls were made, and the controls after them.
-#[derive(Drop)]
+#[derive(Clone, Copy)]
 pub struct Performance {
     pub made: bool,
     pub controls: control::Controls,

@@ -1,5 +1,7 @@
 // The player's calls. Each takes whatever bytes, numbers and lent memory it is given. A refusal answers its number, returns the controls as they
 // came and writes nothing lent.
+#![tactic(auto)]
+
 ghost use Rattle.std.specs.Prelude.{◌≡◌, ◌+◌, ◌≤◌, ◌<◌, length};
 ghost use Rattle.control.specs.Moves.{pitch_moved, bend_moved};
 ghost use Rattle.sheet.specs.Links.{Rows};

@@ -1,10 +1,12 @@
 // Checks 1 to 8, and the tables that an accepted sheet leaves.
+#![tactic(auto)]
+
 ghost use Rattle.std.specs.Prelude.{◌≤◌, ◌<◌, length};
 ghost use Rattle.sheet.specs.Links.{Rows};
 ghost use Rattle.prepare.specs.Prepared.{Prepared};
 
 // The refusal's number, or 0, and then the number of records and how much scratch they need.
-#[derive(Drop)]
+#[derive(Clone, Copy)]
 pub struct Ready {
     pub refusal: u8,
     pub count: usize,

@@ -1,8 +1,10 @@
 // Gain, Tremolo, Compress, a mode of Modal and the sine of an LFO for one sample: values in, a struct of the sample and the new state out.
+#![tactic(auto)]
+
 ghost use Rattle.std.specs.Prelude.{◌≡◌};
 ghost use Rattle.proc.specs.Effects.{gain_of, mode_of, lfo_angle, lfo_at, tremolo_by, tremolo_of, compress_level, compress_gain, compress_of};
 
-#[derive(Drop)]
+#[derive(Clone, Copy)]
 pub struct Mode {
     pub a1: f32,
     pub a2: f32,
@@ -11,13 +13,13 @@ pub struct Mode {
     pub y2: f32,
 }
 
-#[derive(Drop)]
+#[derive(Clone, Copy)]
 pub struct ModeOut {
     pub out: f32,
     pub mode: Mode,
 }
 
-#[derive(Drop)]
+#[derive(Clone, Copy)]
 pub struct Compressed {
     pub out: f32,
     pub env: f32,

@@ -1,5 +1,7 @@
 // The processors over a block, in place: what the one-sample kernel gives, sample after sample, with the state in locals.
 // Those that play in passes are lent a buffer, whose numbers before and after have no meaning.
+#![tactic(auto)]
+
 ghost use Rattle.std.specs.Prelude.{◌≡◌, ◌+◌, ◌^◌, ◌≤◌, ◌<◌, length};
 ghost use Rattle.dsl.specs.declared.DriveShape.TheVariants.{Tanh};
 ghost use Rattle.drive.specs.Drive.{decay_of, ln_cosh};

@@ -1,5 +1,7 @@
 // A block of a processor's record, in place: the kernel of its kind on what the record owns. What is constant over the
 // block is read of the record once. buf is a buffer for the kernels that play in passes.
+#![tactic(auto)]
+
 ghost use Rattle.std.specs.Prelude.{◌≡◌, true, List, [], ◌∷◌, ◌≢◌, ℕ, ◌+◌, ◌/◌, ◌^◌, ◌≤◌, ◌<◌, length, pos, Float};
 ghost use Rattle.std.specs.Float.{binary32};
 ghost use Rattle.std.specs.Float.Ieee.{of_int};

@@ -1,10 +1,12 @@
 // Rand for one sample.
+#![tactic(auto)]
+
 ghost use Rattle.std.specs.Prelude.{◌≡◌};
 ghost use Rattle.std.specs.Float.Ieee as Ieee;
 ghost use Rattle.rand_value.specs.Rand.{rand_increment, rand_out, rand_turn, rand_next};
 
 // Rand's walk: the generator's word, the two numbers of the segment and the phase in it.
-#[derive(Drop)]
+#[derive(Clone, Copy)]
 pub struct Rand {
     pub word: u64,
     pub prev: f32,

@@ -1,4 +1,6 @@
 // Checks 3 and 4 of document 01, in a pass over the records that fills tables of their kinds and links.
+#![tactic(auto)]
+
 ghost use Rattle.std.specs.Prelude.{◌≡◌, true, ◌+◌, ◌*◌, ◌≤◌, length};
 ghost use Rattle.sheet.specs.Record.{count_of};
 ghost use Rattle.sheet.specs.Codes.{options_table, numbers_table};

@@ -1,12 +1,18 @@
 // Renders the sheet on standard input to a WAVE file on standard output. The argument says how many whole seconds, 4 without one.
-// A refusal is said on standard error and leaves standard output empty: a Rattle program has no exit status to give.
+// A refusal is said on standard error and leaves standard output empty, and the exit status stays 0.
+// A read or a write that fails ends the program with its error, and with the status 1.
+#![tactic(auto)]
+
 ghost use Rattle.std.specs.Prelude.{◌≡◌, ◌++◌, ◌*◌, ◌≤◌, min, length, drop};
 ghost use Rattle.sheet.specs.Checks.{check_of};
 ghost use Rattle.calls.specs.Calls.{Fills};
 ghost use Rattle.wav.specs.Wav.{bytes_of};
 ghost use Rattle.render_voice.specs.Seconds.{seconds_of, samples_of};
 
-use libc::{STDERR_FILENO, STDIN_FILENO, STDOUT_FILENO};
+use console::{read_full, say, say_decimal};
+use std::env::{Env, FillError};
+use std::io;
+use std::io::Write;
 
 // What is lent: the most registers and scratch that 256 records can need, and cells for 21 seconds of delay at 48,000 Hz.
 const CELLS: usize = 1048576;
@@ -20,59 +26,66 @@ const BLOCK: usize = 4096;
 
 // ---- what is said on standard error
 
-fn say(text: &[u8]) {
-    io::write_all(STDERR_FILENO, text);
+fn say_room(errors: &mut impl Write, cells: u64, registers: u64, scratch: u64) -> io::Result<()> {
+    say_decimal(errors, cells)?;
+    say(errors, b" cells, ")?;
+    say_decimal(errors, registers)?;
+    say(errors, b" registers and ")?;
+    say_decimal(errors, scratch)?;
+    say(errors, b" scratch")
 }
 
-fn say_room(cells: u64, registers: u64, scratch: u64) {
-    io::print_decimal(STDERR_FILENO, cells);
-    say(b" cells, ");
-    io::print_decimal(STDERR_FILENO, registers);
-    say(b" registers and ");
-    io::print_decimal(STDERR_FILENO, scratch);
-    say(b" scratch");
-}
-
-fn say_needs(sheet: &[u8]) {
+fn say_needs(errors: &mut impl Write, sheet: &[u8]) -> io::Result<()> {
     let n = player::needs(sheet);
-    say(b"the voice needs ");
-    say_room(n.cells, n.registers, n.scratch);
-    say(b"; the program lends ");
-    say_room(CELLS as u64, REGISTERS as u64, SCRATCH as u64);
+    say(errors, b"the voice needs ")?;
+    say_room(errors, n.cells, n.registers, n.scratch)?;
+    say(errors, b"; the program lends ")?;
+    say_room(errors, CELLS as u64, REGISTERS as u64, SCRATCH as u64)
 }
 
 // Document 01's numbered checks.
-fn say_reason(sheet: &[u8], answer: u8) {
+fn say_reason(errors: &mut impl Write, sheet: &[u8], answer: u8) -> io::Result<()> {
     match answer {
-        1 => say(b"the length is not 24 bytes and 40 for each of 1 to 256 records"),
+        1 => say(
+            errors,
+            b"the length is not 24 bytes and 40 for each of 1 to 256 records",
+        ),
         2 => say(
+            errors,
             b"the sample rate is outside 8000 to 192000, or header bytes 2 and 3 are not zero",
         ),
         3 => say(
+            errors,
             b"a record has an unknown kind, an option its kind lacks, or a byte set that its kind does not use",
         ),
-        4 => say(b"a link leads neither to a later record nor to none, or record 0 has a next"),
-        5 => say(b"a record other than 0 is linked by no link or by more than one"),
+        4 => say(
+            errors,
+            b"a link leads neither to a later record nor to none, or record 0 has a next",
+        ),
+        5 => say(
+            errors,
+            b"a record other than 0 is linked by no link or by more than one",
+        ),
         6 => say(
+            errors,
             b"a chain has the wrong kinds or the wrong number of records, or record 0 is not a node",
         ),
-        7 => say(b"nodes nest deeper than 16"),
-        8 => say_needs(sheet),
-        9 => say(b"the position, a ring place or a Rand phase is out of range"),
-        _ => say(b"too few positions are left"),
+        7 => say(errors, b"nodes nest deeper than 16"),
+        8 => say_needs(errors, sheet),
+        9 => say(
+            errors,
+            b"the position, a ring place or a Rand phase is out of range",
+        ),
+        _ => say(errors, b"too few positions are left"),
     }
 }
 
-fn refused(sheet: &[u8], answer: u8) {
-    say(b"refused ");
-    io::print_decimal(STDERR_FILENO, answer as u64);
-    say(b": ");
-    say_reason(sheet, answer);
-    say(b"\n");
-}
-
-fn not_written() {
-    os::fail(b"standard output");
+fn refused(errors: &mut impl Write, sheet: &[u8], answer: u8) -> io::Result<()> {
+    say(errors, b"refused ")?;
+    say_decimal(errors, answer as u64)?;
+    say(errors, b": ")?;
+    say_reason(errors, sheet, answer)?;
+    say(errors, b"\n")
 }
 
 // ---- the argument
@@ -100,20 +113,19 @@ fn seconds(text: &[u8]) -> u32
     n
 }
 
-// An argument that is longer than the buffer comes as an empty one.
-fn asked() -> u32
+// 4 without an argument; 0 where there are two, or where the one is no number from 1 to 3,600 or is longer than the buffer.
+fn asked(env: &impl Env) -> u32
     ensures { result ≤ 3600 }
 {
-    let n = os::arg_count();
-    if n < 2 {
-        return 4;
-    }
-    if n > 2 {
-        return 0;
-    }
     let mut text = [0u8; 16];
-    let k = os::arg(1, &mut text);
-    seconds(&text[..k])
+    let Err(FillError::NotPresent) = env.arg(2, &mut text) else {
+        return 0;
+    };
+    match env.arg(1, &mut text) {
+        Ok(k) => seconds(&text[..k]),
+        Err(FillError::NotPresent) => 4,
+        Err(FillError::TooLong) => 0,
+    }
 }
 
 // ---- the sound
@@ -152,13 +164,15 @@ fn least(a: usize, b: usize) -> usize
 
 // Block after block, until all is written or a write fails.
 fn play(
+    output: &mut impl Write,
+    errors: &mut impl Write,
     sheet: &[u8],
     c: control::Controls,
     samples: usize,
     cells: &mut [f32],
     regs: &mut [u64],
     scr: &mut [f32],
-) {
+) -> io::Result<()> {
     let mut out = [0.0f32; BLOCK];
     let mut bytes = [0u8; 2 * BLOCK];
     let mut controls = c;
@@ -167,46 +181,67 @@ fn play(
         let n = least(left, BLOCK);
         let f = next_block(sheet, controls, &mut out[..n], &mut bytes, cells, regs, scr);
         if f.answer != 0 {
-            refused(sheet, f.answer);
-            return;
+            return refused(errors, sheet, f.answer);
         }
-        if !io::write_all(STDOUT_FILENO, &bytes[..2 * n]) {
-            not_written();
-            return;
-        }
+        say(output, &bytes[..2 * n])?;
         controls = f.controls;
         left -= n;
     }
+    Ok(())
 }
 
-fn render(sheet: &[u8], seconds: u32, cells: &mut [f32], regs: &mut [u64], scr: &mut [f32])
+fn render(
+    output: &mut impl Write,
+    errors: &mut impl Write,
+    sheet: &[u8],
+    seconds: u32,
+    cells: &mut [f32],
+    regs: &mut [u64],
+    scr: &mut [f32],
+) -> io::Result<()>
     requires { seconds ≤ 3600 }
 {
     let b = player::build(sheet, control::fresh_controls(), cells, regs, scr);
     if b.answer != 0 {
-        refused(sheet, b.answer);
-        return;
+        return refused(errors, sheet, b.answer);
     }
     let samples = count(sheet, seconds);
     let header = wav::header(sheet::rate(sheet), samples);
-    if !io::write_all(STDOUT_FILENO, &header) {
-        not_written();
-        return;
-    }
-    play(sheet, b.controls, samples as usize, cells, regs, scr);
+    say(output, &header)?;
+    play(
+        output,
+        errors,
+        sheet,
+        b.controls,
+        samples as usize,
+        cells,
+        regs,
+        scr,
+    )
 }
 
 // The buffer is longer than any sheet, so an input that is too long stays so.
-fn main() {
-    let seconds = asked();
+fn main(rt: HostRuntime) -> io::Result<()> {
+    let mut errors = rt.stderr();
+    let seconds = asked(&rt);
     if seconds == 0 {
-        say(b"the argument is not a whole number of seconds from 1 to 3600\n");
-        return;
+        return say(
+            &mut errors,
+            b"the argument is not a whole number of seconds from 1 to 3600\n",
+        );
     }
-    let mut buf = io::large_buffer();
-    let n = io::read_full(STDIN_FILENO, &mut buf);
+    let mut buf = [0u8; 65536];
+    let n = read_full(&mut rt.stdin(), &mut buf)?;
     let mut cells = [0.0f32; CELLS];
     let mut regs = [0u64; REGISTERS];
     let mut scr = [0.0f32; SCRATCH];
-    render(&buf[..n], seconds, &mut cells, &mut regs, &mut scr);
+    render(
+        &mut rt.stdout(),
+        &mut errors,
+        &buf[..n],
+        seconds,
+        &mut cells,
+        &mut regs,
+        &mut scr,
+    )
 }

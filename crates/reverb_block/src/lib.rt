@@ -1,4 +1,6 @@
 // Reverb over a block: the lines and their places stay in the record's own cells and registers.
+#![tactic(auto)]
+
 ghost use Rattle.std.specs.Prelude.{◌≡◌, ◌+◌, ◌^◌, ◌≤◌, ◌<◌, List, ◌++◌, length, Float};
 ghost use Rattle.block.specs.Iterate.{given, after};
 ghost use Rattle.reverb_block.specs.Reverb as bank;

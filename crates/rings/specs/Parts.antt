@@ -12,7 +12,8 @@ use Rattle.layout.specs.Counts.{sum-above, cells-some}
 use Rattle.layout.specs.Tables.{Table, role_code, code_role, role-code, code-built, code-unbuilt}
 use Rattle.unit.specs.Laws.{filter-need}
 use Rattle.machine.specs.Machine.{is_filter, scaled}
-use Rattle.machine.specs.Build.{joined, joined_length}
+use Rattle.machine.specs.Build.{joined}
+use Rattle.machine.proofs.Build.{joined_length}
 
 -- ---- roles by their codes
 pub role-built : (s : List ℕ) (i r : ℕ) → r ≡ role_code (role s i) → 2 ≤ r → role s i ≡ built

@@ -1,4 +1,6 @@
 // Check 9 of the cells and registers: ring places lie in their lines, and phases of Rand from 0 to 1.
+#![tactic(auto)]
+
 ghost use Rattle.std.specs.Prelude.{◌≡◌, ◌+◌, ◌≤◌, ◌<◌, length};
 ghost use Rattle.lines.specs.Lines.{reverb_lines};
 ghost use Rattle.sheet.specs.Record.{rate_of, kind};

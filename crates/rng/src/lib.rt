@@ -1,4 +1,6 @@
 // SplitMix64 and what is drawn from it, and the paths and seeds of dsp.rs.
+#![tactic(auto)]
+
 ghost use Rattle.std.specs.Prelude.{◌≡◌};
 ghost use Rattle.rng.specs.Random.{mixed, stepped, drawn, unit_of, bi_of, range_of, path_of, seed_of, rand_seed_of};
 
@@ -17,13 +19,13 @@ pub fn splitmix_mix(z: u64) -> u64
     b ^ (b >> 31)
 }
 
-#[derive(Drop)]
+#[derive(Clone, Copy)]
 pub struct Word {
     pub state: u64,
     pub word: u64,
 }
 
-#[derive(Drop)]
+#[derive(Clone, Copy)]
 pub struct Drawn {
     pub state: u64,
     pub x: f32,

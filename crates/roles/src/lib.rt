@@ -1,4 +1,6 @@
 // Tables over the records of an accepted sheet of `count` records, each written by one pass over those below it. The sheet itself is not read: it says what the tables hold.
+#![tactic(auto)]
+
 ghost use Rattle.std.specs.Prelude.{◌≡◌, ◌≢◌, ◌+◌, ◌≤◌, ◌<◌, length};
 ghost use Rattle.sheet.specs.Record.{kind, first, next};
 ghost use Rattle.layout.specs.Built.{owner, trailing, role, begin, after};

@@ -1,5 +1,7 @@
 // The whole numbers near a float: floor, trunc and round, and what they leave over. From 2^23 on an f32 is whole, so y + 2^23 is y
 // rounded to the nearest whole number, and one comparison tells which neighbour is asked for: no call of the C library, and no cast.
+#![tactic(auto)]
+
 ghost use Rattle.std.specs.Prelude.{◌≡◌, false, ◌+◌, ◌-◌, ◌*◌, ◌/◌, pos, T};
 ghost use Rattle.std.specs.Float.Ieee as Ieee;
 ghost use Rattle.std.specs.Float.{fin, binary32, binary64};

@@ -1,4 +1,6 @@
 // Checks 5, 6 and 7 of document 01, by the tables of the records' kinds and links.
+#![tactic(auto)]
+
 ghost use Rattle.std.specs.Prelude.{◌≡◌, true, cond, ℕ, ◌≤◌, ◌<◌, ltb, length};
 ghost use Rattle.sheet.specs.Kinds.{is_node};
 ghost use Rattle.sheet.specs.Checks.{sum};

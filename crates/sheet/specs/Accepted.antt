@@ -8,7 +8,7 @@ use Rattle.std.proofs.Math.Decide.{ℕ_discrete, dec_lt}
 use Rattle.std.proofs.Math.ListN.{get_or-eq_default}
 use Rattle.tree.specs.Tree.{node, In, here, kid, rest, Apart}
 use Rattle.tree.specs.Forest.{Forest, build, whole, root, root-apart}
-use Rattle.sheet.specs.Bytes.{u16At}
+use Rattle.sheet.specs.Bytes.{u16_at}
 use Rattle.sheet.specs.Record.{count_of, rate_of, record_at, kind, first, next}
 use Rattle.sheet.specs.Kinds.{is_node}
 use Rattle.sheet.specs.Tree.{root_tree, depth_of}
@@ -177,6 +177,8 @@ module _ {f x : ℕ → ℕ} {n : ℕ} (l : Links f x n) where
   begins (suc m) (suc k) d h g = here
 
   not-zero : (m k : ℕ) {i : ℕ} → In i (build f x m k) → k ≢ 0
+  not-zero zero k {i = i} p = elim p [ ]
+  not-zero (suc m) zero {i = i} p = elim p [ ]
   not-zero (suc m) (suc k) p = λ e. omega arith
 
   -- a tree with fuel for all the records holds whatever its records link to
@@ -191,6 +193,8 @@ module _ {f x : ℕ → ℕ} {n : ℕ} (l : Links f x n) where
       subst (λ (t : ℕ). In t (build f x m (x i))) e (begins m (x i) (λ z. d (sym e ∙ z)) (omega (arith, q.0)) q.1)
 
   stays : (m k : ℕ) → n ≤ m + k → {i : ℕ} → In i (build f x m k) → (j : ℕ) → j ≢ 0 → (f i ≡ j) ⊎ (x i ≡ j) → In j (build f x m k)
+  stays zero k h {i = i} x5 j d e = elim x5 [ ]
+  stays (suc m) zero h {i = i} x10 j d e = elim x10 [ ]
   stays (suc m) (suc k) h here j d (inl e) = kid (opens m (suc k) j (omega arith) d e)
   stays (suc m) (suc k) h here j d (inr e) = rest (goes_on m (suc k) j (omega arith) d e)
   stays (suc m) (suc k) h (kid p) j d e = kid (stays m (f (suc k)) (omega (arith, (l.first_in (suc k) (not-zero m (f (suc k)) p)).0)) p j d e)
@@ -240,7 +244,7 @@ pub record Accepted (s : List ℕ) : Type 0 where
   pub few : count_of s ≤ 256
   pub rate_least : 8000 ≤ rate_of s
   pub rate_most : rate_of s ≤ 192000
-  pub clear : u16At s 2 ≡ 0
+  pub clear : u16_at s 2 ≡ 0
   -- 3: each record's kind, option and unused bytes
   pub records_ok : (i : ℕ) → i < count_of s → record_ok (record_at s i) ≡ true
   -- 4 and 5: links climb to records below N, past the records there is none, record 0 has no next, and no record is linked twice
@@ -272,7 +276,7 @@ accepted s e =
     let a6 = passes (all (chain_ok s) n && is_node (kind s 0)) 5 _ a5.1 in
     let a7 = passes (depth_ok s) 6 _ a6.1 in
     let z = sized s a1.0 in
-    let h = both (leb 8000 (rate_of s) && leb (rate_of s) 192000) (eqb (u16At s 2) 0) a2.0 in
+    let h = both (leb 8000 (rate_of s) && leb (rate_of s) 192000) (eqb (u16_at s 2) 0) a2.0 in
     let g = both (leb 8000 (rate_of s)) (leb (rate_of s) 192000) h.0 in
     let c = both (all (chain_ok s) n) (is_node (kind s 0)) a6.0 in
     let links = links-of s z a4.0 in

@@ -1,6 +1,6 @@
 -- Checks 1 to 7 of document 01, each as what must hold; the answer is the lowest number whose check fails, and 0 where none does.
 use Rattle.std.specs.Prelude.{Bool, true, cond, ◌&&◌, ◌||◌, List, [], ◌∷◌, map, ℕ, zero, suc, ◌+◌, ◌-◌, ◌*◌, length, leb, ltb, eqb}
-use Rattle.sheet.specs.Bytes.{byte_at, u16At}
+use Rattle.sheet.specs.Bytes.{byte_at, u16_at}
 use Rattle.sheet.specs.Record.{count_of, rate_of, kind_of, option_of, record_at, kind, first, next}
 use Rattle.sheet.specs.Kinds.{Chain, empty, values, nodes, modes, steps, row_of, is_node, is_value}
 use Rattle.sheet.specs.Tree.{records, spine, depth_of}
@@ -20,13 +20,13 @@ length_ok s = leb 24 (length s) && eqb (length s) (24 + 40 * count_of s) && leb 
 
 -- 2: the rate is 8,000 to 192,000, and header bytes 2 and 3 are zero
 unfoldable pub header_ok : List ℕ → Bool
-header_ok s = leb 8000 (rate_of s) && leb (rate_of s) 192000 && eqb (u16At s 2) 0
+header_ok s = leb 8000 (rate_of s) && leb (rate_of s) 192000 && eqb (u16_at s 2) 0
 
 -- 3: the kind is known and has the option, and the bytes that it does not use are zero: 6 and 7, and the numbers past those it uses
 unfoldable pub record_ok : List ℕ → Bool
 record_ok r =
     let row = row_of (kind_of r) in
-    ltb (option_of r) row.options && eqb (u16At r 6) 0 && all (λ k. eqb (byte_at r (8 + 4 * row.numbers + k)) 0) (32 - 4 * row.numbers)
+    ltb (option_of r) row.options && eqb (u16_at r 6) 0 && all (λ k. eqb (byte_at r (8 + 4 * row.numbers + k)) 0) (32 - 4 * row.numbers)
 
 -- 4: a link is zero, or above its own record and below N; record 0 has no next
 unfoldable pub link_ok : ℕ → ℕ → ℕ → Bool

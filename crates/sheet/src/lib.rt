@@ -1,10 +1,12 @@
 // The patch sheet: a header of 24 bytes, then records of 40 bytes. A record is read from the part of the sheet that
 // starts at its first byte, `&sheet[24 + 40 * i..]`.
+#![tactic(auto)]
+
 pub mod kinds;
 
 ghost use Rattle.std.specs.Prelude.{◌≡◌, ◌+◌, ◌*◌, ◌≤◌, ◌<◌, length};
-ghost use Rattle.sheet.specs.Bytes.{u16At, u32_at, u64At};
-ghost use Rattle.sheet.specs.Record.{count_of, rate_of, length_of, path_of, kind_of, option_of, first_of, next_of, bits_of, number_of, seed_of, kind as recordKind};
+ghost use Rattle.sheet.specs.Bytes.{u16_at, u32_at, u64_at};
+ghost use Rattle.sheet.specs.Record.{count_of, rate_of, length_of, path_of, kind_of, option_of, first_of, next_of, bits_of, number_of, seed_of, kind as record_kind};
 ghost use Rattle.sheet.specs.Value.{value_of};
 
 fn wide(x: u8) -> u32
@@ -16,7 +18,7 @@ fn wide(x: u8) -> u32
 // Two, four and eight bytes as a number, the lowest first.
 pub fn half(s: &[u8], at: usize) -> u32
     requires { at + 2 ≤ length s.now }
-    ensures { (result ≡ u16At s.now at) × (result < 65536) }
+    ensures { (result ≡ u16_at s.now at) × (result < 65536) }
 {
     wide(s[at]) + 256 * wide(s[at + 1])
 }
@@ -30,7 +32,7 @@ fn word(s: &[u8], at: usize) -> u32
 
 pub fn double(s: &[u8], at: usize) -> u64
     requires { at + 8 ≤ length s.now }
-    ensures { result ≡ u64At s.now at }
+    ensures { result ≡ u64_at s.now at }
 {
     (word(s, at) as u64) + 4294967296 * (word(s, at + 4) as u64)
 }
@@ -78,7 +80,7 @@ pub fn kind(r: &[u8]) -> u8
 // The kind of record i.
 pub fn kind_at(sheet: &[u8], i: usize) -> u8
     requires { 24 + 40 * (i + 1) ≤ length sheet.now }
-    ensures { result ≡ recordKind sheet.now i }
+    ensures { result ≡ record_kind sheet.now i }
 {
     let a = 24 + 40 * i;
     kind(&sheet[a..])
@@ -133,7 +135,7 @@ pub fn seed(r: &[u8]) -> u64
 // ---- a value record, read into one of six cases
 
 // Arp carries the record of its first step.
-#[derive(Drop)]
+#[derive(Clone, Copy)]
 pub enum Value {
     Const(f32),
     Slide {

@@ -1,11 +1,15 @@
 // Checks the sheets of standard input, which compare/sheets.py made from document 01: for each its length (four bytes, the
 // lowest first), the answer that it must get, and its bytes. Prints how many got each answer, and the first difference.
+#![tactic(auto)]
+
 ghost use Rattle.std.specs.Prelude.{◌<◌};
 
-use libc::{STDIN_FILENO, STDOUT_FILENO};
+use console::{read_full, say_count};
+use std::io;
+use std::io::{Read, Write};
 
 // The sheets so far, those that got another answer than they must, and the first of those.
-#[derive(Drop)]
+#[derive(Clone, Copy)]
 struct Run {
     more: bool,
     sheets: u64,
@@ -13,16 +17,6 @@ struct Run {
     at: u64,
     expected: u8,
     answered: u8,
-}
-
-fn say(text: &[u8]) {
-    io::write_all(STDOUT_FILENO, text);
-}
-
-fn say_count(name: &[u8], n: u64) {
-    say(name);
-    io::print_decimal(STDOUT_FILENO, n);
-    say(b"\n");
 }
 
 fn next(n: u64) -> u64 {
@@ -81,26 +75,26 @@ fn length(head: &[u8; 5]) -> usize {
 }
 
 // Reads a sheet into buf, and compares its answer.
-fn step(run: Run, buf: &mut [u8], counts: &mut [u64]) -> Run {
+fn step(input: &mut impl Read, run: Run, buf: &mut [u8], counts: &mut [u64]) -> io::Result<Run> {
     let mut head = [0u8; 5];
-    let got = io::read_full(STDIN_FILENO, &mut head);
+    let got = read_full(input, &mut head)?;
     if got < 5 {
-        return ended(run, got == 0);
+        return Ok(ended(run, got == 0));
     }
     let n = length(&head);
     if buf.len() < n {
-        return ended(run, false);
+        return Ok(ended(run, false));
     }
-    if io::read_full(STDIN_FILENO, &mut buf[..n]) < n {
-        return ended(run, false);
+    if read_full(input, &mut buf[..n])? < n {
+        return Ok(ended(run, false));
     }
     let answered = checks::accepted(&buf[..n]);
     raise(counts, answered);
-    counted(run, head[4], answered)
+    Ok(counted(run, head[4], answered))
 }
 
 // The turns are more than any input has, so that the loop ends.
-fn run_all(buf: &mut [u8], counts: &mut [u64]) -> Run {
+fn run_all(input: &mut impl Read, buf: &mut [u8], counts: &mut [u64]) -> io::Result<Run> {
     let mut run = Run {
         more: true,
         sheets: 0,
@@ -111,33 +105,34 @@ fn run_all(buf: &mut [u8], counts: &mut [u64]) -> Run {
     };
     let mut turns = u64::MAX;
     while turns > 0 && run.more {
-        run = step(run, buf, counts);
+        run = step(input, run, buf, counts)?;
         turns -= 1;
     }
-    run
+    Ok(run)
 }
 
-fn report(run: Run, counts: &[u64; 8]) {
-    say_count(b"sheets ", run.sheets);
-    say_count(b"accepted ", counts[0]);
-    say_count(b"refused 1: ", counts[1]);
-    say_count(b"refused 2: ", counts[2]);
-    say_count(b"refused 3: ", counts[3]);
-    say_count(b"refused 4: ", counts[4]);
-    say_count(b"refused 5: ", counts[5]);
-    say_count(b"refused 6: ", counts[6]);
-    say_count(b"refused 7: ", counts[7]);
-    say_count(b"differences ", run.differences);
+fn report(output: &mut impl Write, run: Run, counts: &[u64; 8]) -> io::Result<()> {
+    say_count(output, b"sheets ", run.sheets)?;
+    say_count(output, b"accepted ", counts[0])?;
+    say_count(output, b"refused 1: ", counts[1])?;
+    say_count(output, b"refused 2: ", counts[2])?;
+    say_count(output, b"refused 3: ", counts[3])?;
+    say_count(output, b"refused 4: ", counts[4])?;
+    say_count(output, b"refused 5: ", counts[5])?;
+    say_count(output, b"refused 6: ", counts[6])?;
+    say_count(output, b"refused 7: ", counts[7])?;
+    say_count(output, b"differences ", run.differences)?;
     if run.differences > 0 {
-        say_count(b"the first at sheet ", run.at);
-        say_count(b"it must get ", run.expected as u64);
-        say_count(b"and got ", run.answered as u64);
+        say_count(output, b"the first at sheet ", run.at)?;
+        say_count(output, b"it must get ", run.expected as u64)?;
+        say_count(output, b"and got ", run.answered as u64)?;
     }
+    Ok(())
 }
 
-fn main() {
-    let mut buf = io::large_buffer();
+fn main(rt: HostRuntime) -> io::Result<()> {
+    let mut buf = [0u8; 65536];
     let mut counts = [0u64; 8];
-    let run = run_all(&mut buf, &mut counts);
-    report(run, &counts);
+    let run = run_all(&mut rt.stdin(), &mut buf, &mut counts)?;
+    report(&mut rt.stdout(), run, &counts)
 }

@@ -1,23 +1,25 @@
 // The sources for one sample: values in, a struct of the sample and the new state out.
+#![tactic(auto)]
+
 ghost use Rattle.std.specs.Prelude.{◌≡◌};
 ghost use Rattle.std.specs.Float.Ieee as Ieee;
 ghost use Rattle.float.specs.Single.{◌⊗◌, ◌⊘◌};
 ghost use Rattle.source.specs.Oscillators.{increment, hertz, advance, sine_of, pulse_level, pulse, square_of, saw_at, saw_of, half_pulse, triangle_of, fm_of, super_voice};
 
-#[derive(Drop)]
+#[derive(Clone, Copy)]
 pub struct Phased {
     pub out: f32,
     pub phase: f32,
 }
 
-#[derive(Drop)]
+#[derive(Clone, Copy)]
 pub struct TriangleOut {
     pub out: f32,
     pub phase: f32,
     pub tri: f32,
 }
 
-#[derive(Drop)]
+#[derive(Clone, Copy)]
 pub struct FmOut {
     pub out: f32,
     pub cph: f32,

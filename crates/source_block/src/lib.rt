@@ -1,4 +1,6 @@
 // Impact and Env over a block: what the one-sample kernel gives, sample after sample.
+#![tactic(auto)]
+
 ghost use Rattle.std.specs.Prelude.{◌≡◌, ◌+◌, ◌^◌, ◌≤◌, ◌<◌, length};
 ghost use Rattle.block.specs.Iterate.{given};
 ghost use Rattle.source_block.specs.Steps.{impact_step, env_step, seconds_step, env_level_step};

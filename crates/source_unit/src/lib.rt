@@ -1,5 +1,7 @@
 // The sources over a block: the state is read from what the record owns, what is constant over the block is worked out once, and the state
 // is stored back.
+#![tactic(auto)]
+
 ghost use Rattle.std.specs.Prelude.{◌≡◌, ◌≢◌, List, [], ◌∷◌, ◌+◌, ◌*◌, ◌^◌, ◌≤◌, ◌<◌, length, Float};
 ghost use Rattle.dsl.specs.Options.{super_wave_of, noise_color_of};
 ghost use Rattle.sheet.specs.Record.{option_of, number_of};

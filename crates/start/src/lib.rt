@@ -1,4 +1,6 @@
 // What each record owns when a voice is built: its cells and its registers.
+#![tactic(auto)]
+
 ghost use Rattle.std.specs.Prelude.{◌≡◌, [], ◌∷◌, ◌+◌, ◌*◌, ◌≤◌, ◌<◌, length, replicate};
 ghost use Rattle.rng.specs.Random.{stepped, seed_of};
 ghost use Rattle.sheet.specs.Record.{kind, first, next};

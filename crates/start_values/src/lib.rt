@@ -1,4 +1,6 @@
 // The start values of a kind that are read of a record alone, into the cells that the record owns.
+#![tactic(auto)]
+
 ghost use Rattle.std.specs.Prelude.{◌≡◌, ◌*◌, ◌≤◌, length};
 ghost use Rattle.tree.specs.Block.{tab};
 ghost use Rattle.rng.specs.Random.{stepped, range_of};
@@ -98,7 +100,7 @@ pub fn compress(r: &[u8], srf: f32, own: &mut [f32])
 }
 
 // Rand's first two numbers, and its generator's word after them.
-#[derive(Drop)]
+#[derive(Clone, Copy)]
 pub struct Draws {
     pub prev: f32,
     pub next: f32,

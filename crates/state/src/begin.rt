@@ -3,7 +3,7 @@ ghost use Rattle.std.specs.Prelude.{◌≡◌, ◌++◌, ◌+◌, ◌≤◌, ◌
 ghost use Rattle.sheet.specs.Record.{first, next};
 ghost use Rattle.layout.specs.Built.{role};
 ghost use Rattle.layout.specs.Needs.{cells_from, registers_from};
-ghost use Rattle.layout.specs.Needs.{cells as cellsNeed, registers as registersNeed};
+ghost use Rattle.layout.specs.Needs.{cells as cells_need, registers as registers_need};
 ghost use Rattle.layout.specs.Tables.{Table, Passed, role_code};
 ghost use Rattle.unit.specs.Start.{path};
 ghost use Rattle.machine.specs.Build.{brought_cells, brought_registers, started_cells, started_registers};
@@ -17,7 +17,7 @@ fn record_cells(
     i: usize,
     own: &mut [f32],
 )
-    requires { Passed sheet.now count × Table (first sheet.now) count firsts.now × Table (next sheet.now) count nexts.now × (act ≡ role_code (role sheet.now i)) × (i < count) × (length own.old ≡ cellsNeed sheet.now i) }
+    requires { Passed sheet.now count × Table (first sheet.now) count firsts.now × Table (next sheet.now) count nexts.now × (act ≡ role_code (role sheet.now i)) × (i < count) × (length own.old ≡ cells_need sheet.now i) }
     ensures { own.new ≡ brought_cells sheet.now i }
 {
     if act < 2 {
@@ -28,7 +28,7 @@ fn record_cells(
 }
 
 fn record_registers(sheet: &[u8], count: usize, act: u8, key: u64, i: usize, own: &mut [u64])
-    requires { Passed sheet.now count × (act ≡ role_code (role sheet.now i)) × (key ≡ path sheet.now i) × (i < count) × (length own.old ≡ registersNeed sheet.now i) }
+    requires { Passed sheet.now count × (act ≡ role_code (role sheet.now i)) × (key ≡ path sheet.now i) × (i < count) × (length own.old ≡ registers_need sheet.now i) }
     ensures { own.new ≡ brought_registers sheet.now i }
 {
     if act < 2 {

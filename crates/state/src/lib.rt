@@ -1,4 +1,6 @@
 // What the player's calls do to the lent memory but for samples: the cutoff move, the start of a voice, and the scratch zeroed.
+#![tactic(auto)]
+
 mod begin;
 
 ghost use Rattle.std.specs.Prelude.{◌≡◌, cond, ◌&&◌, ◌++◌, ◌+◌, ◌≤◌, length, drop, set, replicate};
@@ -12,6 +14,9 @@ ghost use Rattle.unit.specs.Start.{path};
 ghost use Rattle.machine.specs.Machine.{is_filter, scaled};
 ghost use Rattle.machine.specs.Build.{started_cells, started_registers};
 
+// The filters are the kinds 22 to 28.
+const LAST_FILTER: u8 = 28;
+
 // A filter of the role act and the kind k whose cells begin at `at` gets the scale x, and NaN for its last frequency, so that the next sample works out the coefficients.
 fn scale(act: u8, k: u8, at: usize, x: f32, cells: &mut [f32])
     requires { 2 ≤ act → 22 ≤ k → k ≤ 28 → at + 2 ≤ length cells.old }
@@ -23,7 +28,7 @@ fn scale(act: u8, k: u8, at: usize, x: f32, cells: &mut [f32])
     if k < 22 {
         return;
     }
-    if k > 28 {
+    if k > LAST_FILTER {
         return;
     }
     cells[at] = x;

@@ -11,13 +11,14 @@ use Rattle.sheet.specs.Record.{count_of, next}
 use Rattle.layout.specs.Built.{role, begin, after}
 use Rattle.layout.specs.Needs.{cells_from, registers_from, scratch_from}
 use Rattle.layout.specs.Tables.{Table, role_code}
-use Rattle.layout.specs.Laws.{playable}
+use Rattle.layout.proofs.Laws.{playable}
 use Rattle.unit.specs.Own.{Own, silence}
 use Rattle.unit.specs.Voice.{voice}
 use Rattle.unit.specs.Block.{Pitched}
 use Rattle.walk.specs.Walk.{Voiced, Ready, Scratch, Sound, Sourced, sound-after}
 use Rattle.machine.specs.Machine.{State, state, samples}
-use Rattle.machine.specs.Samples.{tick, samples-add, source-samples}
+use Rattle.machine.specs.Samples.{tick}
+use Rattle.machine.proofs.Samples.{samples-add, source-samples}
 
 -- l numbers hold every block of n samples
 pub record Buffer (n l : ℕ) : Type 0 where

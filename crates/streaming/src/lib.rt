@@ -1,4 +1,6 @@
 // Samples in any number, a block of at most 256 at a time: the pitch of each sample first, then the walk over the records.
+#![tactic(auto)]
+
 ghost use Rattle.std.specs.Prelude.{◌≡◌, ◌+◌, ◌^◌, ◌≤◌, ◌<◌, length};
 ghost use Rattle.walk.specs.Walk.{Sound};
 ghost use Rattle.streaming.specs.Run.{Set, Blocked, Buffer};

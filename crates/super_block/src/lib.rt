@@ -1,4 +1,6 @@
 // Super over a block: the voices stay in the record's own cells.
+#![tactic(auto)]
+
 ghost use Rattle.std.specs.Prelude.{◌≡◌, ◌*◌, ◌≤◌, length};
 ghost use Rattle.block.specs.Iterate.{given, after};
 ghost use Rattle.source.specs.Oscillators.{hertz};

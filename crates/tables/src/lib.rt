@@ -1,4 +1,6 @@
 // Checks 1 to 7, what an accepted sheet needs, and the tables that it leaves: its links, what each record is, and where its memory begins.
+#![tactic(auto)]
+
 ghost use Rattle.std.specs.Prelude.{◌≡◌, ◌≤◌, ◌<◌, length};
 ghost use Rattle.sheet.specs.Links.{Rows};
 ghost use Rattle.tables.specs.Answer.{needed_of};
@@ -6,7 +8,7 @@ ghost use Rattle.tables.specs.Tables.{Made};
 
 // The refusal's number, or 0, and how much memory the sheet needs to be lent: nothing where it is refused.
 #[repr(C)]
-#[derive(Drop)]
+#[derive(Clone, Copy)]
 pub struct Needed {
     pub refusal: u8,
     pub cells: u64,
@@ -15,7 +17,7 @@ pub struct Needed {
 }
 
 // What a sheet needs, and its number of records where it is accepted.
-#[derive(Drop)]
+#[derive(Clone, Copy)]
 pub struct Measured {
     pub needed: Needed,
     pub count: usize,

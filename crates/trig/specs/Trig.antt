@@ -6,14 +6,14 @@ use Rattle.rounding.specs.Whole.{round_of}
 use Rattle.double.specs.Double.{◌⊕◌, ◌⊖◌, ◌⊗◌, ◌⊘◌, bits, half, one, horner}
 
 -- 2π in three parts, the double nearest to it and what that drops: 6.283185307179586, 2.44929359829470641445e-16, 1.74968224062658175647e-32
-abbrev pub pi2Hi : Float
-pi2Hi = bits 0x4019_21fb_5444_2d18
+abbrev pub pi2_hi : Float
+pi2_hi = bits 0x4019_21fb_5444_2d18
 
-abbrev pub pi2Mid : Float
-pi2Mid = bits 0x3cb1_a626_3314_5c07
+abbrev pub pi2_mid : Float
+pi2_mid = bits 0x3cb1_a626_3314_5c07
 
-abbrev pub pi2Lo : Float
-pi2Lo = bits 0x3956_b651_0916_84d4
+abbrev pub pi2_lo : Float
+pi2_lo = bits 0x3956_b651_0916_84d4
 
 -- 1 / 2π, 1.59154943091895335769e-01; π / 2, 1.5707963267948966
 abbrev pub inv_pi2 : Float
@@ -54,7 +54,7 @@ cos_poly x = let z = x ⊗ x in one ⊖ half ⊗ z ⊕ z ⊗ z ⊗ horner z cos_
 
 -- x less the nearest number of periods, by Cody and Waite's three steps
 unfoldable pub reduce2pi : Float → Float
-reduce2pi x = let k = round_of binary64 (x ⊗ inv_pi2) in x ⊖ k ⊗ pi2Hi ⊖ k ⊗ pi2Mid ⊖ k ⊗ pi2Lo
+reduce2pi x = let k = round_of binary64 (x ⊗ inv_pi2) in x ⊖ k ⊗ pi2_hi ⊖ k ⊗ pi2_mid ⊖ k ⊗ pi2_lo
 
 -- q modulo 4
 unfoldable pub quadrant_of : ℤ → ℕ

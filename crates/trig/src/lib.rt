@@ -1,5 +1,6 @@
 // det.rs: sine and cosine. f64 arithmetic alone, in one order, with fdlibm's coefficients; no call of the C library, so the
 // results are the same everywhere. A constant stands as the Rust writes it.
+#![tactic(auto)]
 
 ghost use Rattle.std.specs.Prelude.{◌≡◌};
 ghost use Rattle.cast.specs.Narrow.{narrow_of};

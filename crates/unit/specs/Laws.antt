@@ -12,7 +12,7 @@ use Rattle.std.proofs.Math.ListN.{length, length-set}
 use Rattle.std.proofs.lemmas.List.{length-replicate}
 use Rattle.std.proofs.Math.Seq.{set_out}
 use Rattle.std.specs.Float.{binary32}
-use Rattle.std.specs.Float.Ieee.{le, lt, eq, of_bits, of_int, round, units as unitsOf}
+use Rattle.std.specs.Float.Ieee.{le, lt, eq, of_bits, of_int, round, units as units_of}
 use Rattle.std.specs.Float.Ieee.Order.{round_mono}
 use Rattle.ieee.proofs.Tests.{two_to, is_true, one-32}
 use Rattle.float.specs.Order.{clamp_of}
@@ -44,7 +44,7 @@ use Rattle.sheet.specs.Accepted.{kind-past}
 use Rattle.layout.specs.Built.{role, is_built, built}
 use Rattle.layout.specs.Good.{good}
 use Rattle.layout.specs.Needs.{need_of, noise_cells, chain_length, cells_by, registers_by, cells, registers}
-use Rattle.layout.specs.Contents.{option-in}
+use Rattle.layout.proofs.Contents.{option-in}
 use Rattle.layout.specs.Counts.{cells_with, registers_with, cells-with, registers-with, cells-built, registers-built}
 use Rattle.unit.specs.Own.{Own, Ugen, stateless, silent_unit}
 use Rattle.unit.specs.Values.{rand_unit, value_unit, walk_of}
@@ -300,7 +300,7 @@ reverb-ok feedback mix sr t vs x p e =
 
 -- ---- Rand's phase, from a rate of 1 on
 one-is : round binary32 false 1 1 ≡ two_to 0
-unfolding round unitsOf
+unfolding round units_of
 one-is = refl
 
 rate-some : (n : ℕ) → 1 ≤ n → le one (of_int binary32 (pos n)) ≡ true

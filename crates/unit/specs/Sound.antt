@@ -10,7 +10,7 @@ use Rattle.sheet.specs.Kinds.{Chain, empty, values, nodes, modes, steps, row_of}
 use Rattle.sheet.specs.Checks.{check_of}
 use Rattle.layout.specs.Built.{role, is_built, begin, after}
 use Rattle.layout.specs.Counts.{layout_of, rows_of}
-use Rattle.layout.specs.Laws.{playable}
+use Rattle.layout.proofs.Laws.{playable}
 use Rattle.unit.specs.Own.{Own}
 use Rattle.unit.specs.Unit.{unit_of}
 use Rattle.unit.specs.Voice.{playing, entered, voice}

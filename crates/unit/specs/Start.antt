@@ -6,11 +6,11 @@ use Rattle.float.specs.Single.{◌⊕◌, ◌⊖◌, ◌⊗◌, ◌⊘◌, zero 
 use Rattle.tree.specs.Block.{tab}
 use Rattle.dsl.specs.Options.{drive_shape_of}
 use Rattle.dsp.specs.Math.{power}
-use Rattle.rng.specs.Random.{stepped, range_of, path_of as childPath, seed_of, rand_seed_of}
+use Rattle.rng.specs.Random.{stepped, range_of, path_of as child_path, seed_of, rand_seed_of}
 use Rattle.dsp.specs.Coefficients.{follower_of, modal_of}
 use Rattle.dsp.specs.declared.Resonator.{Resonator}
 use Rattle.drive.specs.Drive.{antiderivative_of}
-use Rattle.sheet.specs.Record.{rate_of, path_of, option_of, bits_of, number_of, record_at, kind, first, seed_of as randSeed}
+use Rattle.sheet.specs.Record.{rate_of, path_of, option_of, bits_of, number_of, record_at, kind, first, seed_of as rand_seed}
 use Rattle.sheet.specs.Tree.{records, spine}
 use Rattle.layout.specs.Built.{linker, owner}
 use Rattle.layout.specs.Needs.{voices_of, cells, registers}
@@ -57,7 +57,7 @@ compress_start x srf = zero_f ∷ follower_of (x 2) srf ∷ follower_of (x 3) sr
 
 -- Rand draws its first two numbers
 abbrev pub rand_word : List ℕ → ℕ
-rand_word r = rand_seed_of (randSeed r) (bits_of r 0) (bits_of r 1) (bits_of r 2)
+rand_word r = rand_seed_of (rand_seed r) (bits_of r 0) (bits_of r 1) (bits_of r 2)
 
 abbrev pub rand_start : List ℕ → List Float
 rand_start r =
@@ -89,7 +89,7 @@ place s j = place_by s j j
 -- record 0 has the sheet's path; any other that of its owner and its place in the owner's chain
 unfoldable pub path_by : List ℕ → ℕ → ℕ → ℕ
 path_by s zero j = path_of s
-path_by s (suc n) j = let up = path_by s n (owner s j) in cond (eqb j 0) (path_of s) (childPath up (place s j))
+path_by s (suc n) j = let up = path_by s n (owner s j) in cond (eqb j 0) (path_of s) (child_path up (place s j))
 
 unfoldable pub path : List ℕ → ℕ → ℕ
 path s j = path_by s j j

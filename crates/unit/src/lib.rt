@@ -1,4 +1,6 @@
 // The units of the records as definitions stand in specs/; here is what several of their functions read of a record.
+#![tactic(auto)]
+
 ghost use Rattle.std.specs.Prelude.{◌≡◌, ◌≤◌, length};
 ghost use Rattle.unit.specs.Processors.{filter_kind_of, filter_q};
 

@@ -1,4 +1,6 @@
 // A node's own unit over a block, by its kind.
+#![tactic(auto)]
+
 ghost use Rattle.std.specs.Prelude.{◌≡◌, true, ◌+◌, ◌^◌, ◌≤◌, ◌<◌, length};
 ghost use Rattle.unit.specs.Unit.{kind_unit};
 ghost use Rattle.unit.specs.State.{own_ok};

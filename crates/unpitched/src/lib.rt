@@ -1,4 +1,6 @@
 // The sources for one sample that have no pitch: Impact, Env, the noises, Dust.
+#![tactic(auto)]
+
 ghost use Rattle.std.specs.Prelude.{◌≡◌, cond};
 ghost use Rattle.std.specs.Float.Ieee as Ieee;
 ghost use Rattle.std.specs.Float.Ieee.{neg};
@@ -7,33 +9,33 @@ ghost use Rattle.float.specs.Single.{one};
 ghost use Rattle.unpitched.specs.Others.{impact_width, impact_norm, impact_of, env_of, white_of, pink_of, brown_of, dust_chance, dust_decay, dust_of};
 
 // A sample and the generator's next word.
-#[derive(Drop)]
+#[derive(Clone, Copy)]
 pub struct Drawn {
     pub out: f32,
     pub word: u64,
 }
 
 // The state of pink noise's filter, beside the colour: an enum cannot hold an array.
-#[derive(Drop)]
+#[derive(Clone, Copy)]
 pub struct Poles {
     pub b: [f32; 7],
 }
 
-#[derive(Drop)]
+#[derive(Clone, Copy)]
 pub struct PinkOut {
     pub out: f32,
     pub word: u64,
     pub poles: Poles,
 }
 
-#[derive(Drop)]
+#[derive(Clone, Copy)]
 pub struct BrownOut {
     pub out: f32,
     pub word: u64,
     pub last: f32,
 }
 
-#[derive(Drop)]
+#[derive(Clone, Copy)]
 pub struct DustOut {
     pub out: f32,
     pub word: u64,

@@ -1,5 +1,7 @@
 // The values for one sample. What depends on the sheet alone (Slide's floored secs, the release's start) is
 // worked out by functions of their own, once per block.
+#![tactic(auto)]
+
 ghost use Rattle.std.specs.Prelude.{◌≡◌, ◌<◌, ◌%◌};
 ghost use Rattle.std.specs.Float.Ieee as Ieee;
 ghost use Rattle.value.specs.Modulators.{seconds_of, slide_secs, slide_exp, slide_at, slide_of, lfo_phase, lfo_of, arp_index, arp_of, release_start, env_mod_of};
@@ -49,7 +51,7 @@ fn slide_exp(from: f32, to: f32, log: f64, p: f32) -> f32
 }
 
 // What an exponential slide has at every position: the logarithm of its ratio, and its end. A linear one needs neither.
-#[derive(Drop)]
+#[derive(Clone, Copy)]
 pub struct Ease {
     pub log: f64,
     pub end: f32,

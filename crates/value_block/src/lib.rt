@@ -1,4 +1,6 @@
 // The values over a block, each into a buffer: what the one-sample kernel gives, sample after sample from the position t.
+#![tactic(auto)]
+
 ghost use Rattle.std.specs.Prelude.{◌≡◌, ◌+◌, ◌^◌, ◌≤◌, ◌<◌, length};
 ghost use Rattle.dsl.specs.declared.Shape.TheVariants.{Sine};
 ghost use Rattle.block.specs.Iterate.{given, after};
@@ -175,7 +177,13 @@ pub fn env_mod_block(
 }
 
 // One turn of the walk per sample; inc is `rand_increment` of the sheet, worked out once.
-pub fn rand_block(out: &mut [f32], inc: f32, from: f32, to: f32, s: rand_value::Rand) -> rand_value::Rand
+pub fn rand_block(
+    out: &mut [f32],
+    inc: f32,
+    from: f32,
+    to: f32,
+    s: rand_value::Rand,
+) -> rand_value::Rand
     ensures { (out.new ≡ given (rand_step inc from to) s (length out.old)) × (result ≡ after (rand_step inc from to) s (length out.old)) }
 {
     let mut p = s;

@@ -1,4 +1,6 @@
 // The values over a block: the record is read into its case, what is constant over the block is worked out once, and Rand's state is stored back.
+#![tactic(auto)]
+
 ghost use Rattle.std.specs.Prelude.{◌≡◌, [], ◌+◌, ◌^◌, ◌≤◌, ◌<◌, length};
 ghost use Rattle.block.specs.Iterate.{given};
 ghost use Rattle.sheet.specs.Record.{next};
@@ -22,7 +24,7 @@ pub fn srf_of(sheet: &[u8]) -> f32
 // ---- Arp
 
 // A step by its place among the steps, with its number.
-#[derive(Drop)]
+#[derive(Clone, Copy)]
 struct Step {
     index: u64,
     number: f32,

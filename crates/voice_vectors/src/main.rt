@@ -1,12 +1,16 @@
 // Plays the voices of standard input, a sample of those that compare/voices compared with the Rust original, and compares the hashes of their samples
 // and of what they leave. A case has 32 bytes: how many bytes its sheet has and how many calls follow, the position that the voice starts at, the hash
 // of its samples and the hash of what it leaves (0: not compared). Then the sheet, and 16 bytes for each call. All numbers have the lowest byte first.
+#![tactic(auto)]
+
 ghost use Rattle.std.specs.Prelude.{◌≡◌, ◌^◌, ◌<◌, ◌≤◌, length, take};
 ghost use Rattle.hash.specs.Hash.{basis, hashed, bits_of};
 
-use libc::{STDIN_FILENO, STDOUT_FILENO};
+use console::{read_full, say, say_count, say_hex};
+use std::io;
+use std::io::{Read, Write};
 
-#[derive(Drop)]
+#[derive(Clone, Copy)]
 struct Head {
     sheet: usize,
     calls: usize,
@@ -15,7 +19,7 @@ struct Head {
     state: u64,
 }
 
-#[derive(Drop)]
+#[derive(Clone, Copy)]
 struct Call {
     kind: u8,
     x: f32,
@@ -26,7 +30,7 @@ struct Call {
 
 // How a case came out: 0 as it must, 1 not played, 2 with other samples, 3 with another state; the hash that differs and what it must be; how many
 // samples were made, whether the state was compared, and whether the case was read whole.
-#[derive(Drop)]
+#[derive(Clone, Copy)]
 struct Outcome {
     difference: u8,
     got: u64,
@@ -37,14 +41,14 @@ struct Outcome {
 }
 
 // How many samples the fills made, and their hash.
-#[derive(Drop)]
+#[derive(Clone, Copy)]
 struct Sound {
     samples: u64,
     hash: u64,
 }
 
 // The cases so far, and the first of those that differ.
-#[derive(Drop)]
+#[derive(Clone, Copy)]
 struct Run {
     more: bool,
     cases: u64,
@@ -99,26 +103,32 @@ fn head_of(b: &[u8; 32]) -> Head {
 }
 
 // The kind, three bytes of no use, the two floats and the length.
-fn next_call() -> Call {
+fn next_call(input: &mut impl Read) -> io::Result<Call> {
     let mut b = [0u8; 16];
-    let got = io::read_full(STDIN_FILENO, &mut b);
-    Call {
+    let got = read_full(input, &mut b)?;
+    Ok(Call {
         kind: b[0],
         x: single(b[4], b[5], b[6], b[7]),
         g: single(b[8], b[9], b[10], b[11]),
         length: number(b[12], b[13], b[14], b[15]) as usize,
         whole: got == 16,
-    }
+    })
 }
 
 // As many calls as the slices have, and whether all came whole.
-fn read_calls(kinds: &mut [u8], xs: &mut [f32], gs: &mut [f32], lens: &mut [usize]) -> bool
+fn read_calls(
+    input: &mut impl Read,
+    kinds: &mut [u8],
+    xs: &mut [f32],
+    gs: &mut [f32],
+    lens: &mut [usize],
+) -> io::Result<bool>
     requires { (length xs.old ≡ length kinds.old) × (length gs.old ≡ length kinds.old) × (length lens.old ≡ length kinds.old) }
 {
     let mut whole = true;
     let mut k: usize = 0;
     while k < kinds.len() {
-        let call = next_call();
+        let call = next_call(input)?;
         kinds[k] = call.kind;
         xs[k] = call.x;
         gs[k] = call.g;
@@ -126,7 +136,7 @@ fn read_calls(kinds: &mut [u8], xs: &mut [f32], gs: &mut [f32], lens: &mut [usiz
         whole = whole && call.whole;
         k += 1;
     }
-    whole
+    Ok(whole)
 }
 
 // ---- one case
@@ -282,6 +292,7 @@ fn replay(
 
 // Reads the calls, and plays the voice.
 fn with_calls(
+    input: &mut impl Read,
     sheet: &[u8],
     head: Head,
     kinds: &mut [u8],
@@ -293,32 +304,33 @@ fn with_calls(
     cells: &mut [f32],
     regs: &mut [u64],
     scr: &mut [f32],
-) -> Outcome
+) -> io::Result<Outcome>
     requires { (length xs.old ≡ length kinds.old) × (length gs.old ≡ length kinds.old) × (length lens.old ≡ length kinds.old) }
 {
-    if !read_calls(kinds, xs, gs, lens) {
-        return not_played(false);
+    if !read_calls(input, kinds, xs, gs, lens)? {
+        return Ok(not_played(false));
     }
-    replay(
+    Ok(replay(
         sheet, head, kinds, xs, gs, lens, answers, out, cells, regs, scr,
-    )
+    ))
 }
 
 // Reads the sheet, and lends a place to each call.
 fn case(
+    input: &mut impl Read,
     sheet: &mut [u8],
     head: Head,
     out: &mut [f32],
     cells: &mut [f32],
     regs: &mut [u64],
     scr: &mut [f32],
-) -> Outcome {
+) -> io::Result<Outcome> {
     let n = head.calls;
     if n > 64 {
-        return not_played(false);
+        return Ok(not_played(false));
     }
-    if io::read_full(STDIN_FILENO, sheet) < sheet.len() {
-        return not_played(false);
+    if read_full(input, sheet)? < sheet.len() {
+        return Ok(not_played(false));
     }
     let mut kinds = [0u8; 64];
     let mut xs = [0.0f32; 64];
@@ -326,6 +338,7 @@ fn case(
     let mut lens = [0usize; 64];
     let mut answers = [0u8; 64];
     with_calls(
+        input,
         sheet,
         head,
         &mut kinds[..n],
@@ -373,34 +386,37 @@ fn counted(run: Run, outcome: Outcome) -> Run {
 
 // Reads a case, the sheet into buf, and plays it.
 fn step(
+    input: &mut impl Read,
     run: Run,
     buf: &mut [u8],
     out: &mut [f32],
     cells: &mut [f32],
     regs: &mut [u64],
     scr: &mut [f32],
-) -> Run {
+) -> io::Result<Run> {
     let mut bytes = [0u8; 32];
-    let got = io::read_full(STDIN_FILENO, &mut bytes);
+    let got = read_full(input, &mut bytes)?;
     if got == 0 {
-        return ended(run);
+        return Ok(ended(run));
     }
     let head = head_of(&bytes);
     let n = head.sheet;
     if got < 32 || buf.len() < n {
-        return counted(run, not_played(false));
+        return Ok(counted(run, not_played(false)));
     }
-    counted(run, case(&mut buf[..n], head, out, cells, regs, scr))
+    let outcome = case(input, &mut buf[..n], head, out, cells, regs, scr)?;
+    Ok(counted(run, outcome))
 }
 
 // The turns are more than any input has, so that the loop ends.
 fn run_all(
+    input: &mut impl Read,
     buf: &mut [u8],
     out: &mut [f32],
     cells: &mut [f32],
     regs: &mut [u64],
     scr: &mut [f32],
-) -> Run {
+) -> io::Result<Run> {
     let first = not_played(true);
     let mut run = Run {
         more: true,
@@ -413,62 +429,57 @@ fn run_all(
     };
     let mut turns = u64::MAX;
     while turns > 0 && run.more {
-        run = step(run, buf, out, cells, regs, scr);
+        run = step(input, run, buf, out, cells, regs, scr)?;
         turns -= 1;
     }
-    run
+    Ok(run)
 }
 
 // ---- the report
 
-fn say(text: &[u8]) {
-    io::write_all(STDOUT_FILENO, text);
+fn say_hashes(output: &mut impl Write, name: &[u8], outcome: Outcome) -> io::Result<()> {
+    say(output, name)?;
+    say_hex(output, outcome.got, 16)?;
+    say(output, b" and must be ")?;
+    say_hex(output, outcome.expected, 16)?;
+    say(output, b"\n")
 }
 
-fn say_count(name: &[u8], n: u64) {
-    say(name);
-    io::print_decimal(STDOUT_FILENO, n);
-    say(b"\n");
-}
-
-fn say_hashes(name: &[u8], outcome: Outcome) {
-    say(name);
-    io::print_hex(STDOUT_FILENO, outcome.got, 16);
-    say(b" and must be ");
-    io::print_hex(STDOUT_FILENO, outcome.expected, 16);
-    say(b"\n");
-}
-
-fn say_first(at: u64, outcome: Outcome) {
-    say_count(b"the first at case ", at);
+fn say_first(output: &mut impl Write, at: u64, outcome: Outcome) -> io::Result<()> {
+    say_count(output, b"the first at case ", at)?;
     if outcome.difference == 1 {
-        say(b"it is not played\n");
-        return;
+        return say(output, b"it is not played\n");
     }
     if outcome.difference == 2 {
-        say_hashes(b"the hash of its samples is ", outcome);
-        return;
+        return say_hashes(output, b"the hash of its samples is ", outcome);
     }
-    say_hashes(b"the hash of its state is ", outcome);
+    say_hashes(output, b"the hash of its state is ", outcome)
 }
 
-fn report(run: Run) {
-    say_count(b"cases ", run.cases);
-    say_count(b"samples ", run.samples);
-    say_count(b"states ", run.states);
-    say_count(b"differences ", run.differences);
+fn report(output: &mut impl Write, run: Run) -> io::Result<()> {
+    say_count(output, b"cases ", run.cases)?;
+    say_count(output, b"samples ", run.samples)?;
+    say_count(output, b"states ", run.states)?;
+    say_count(output, b"differences ", run.differences)?;
     if run.differences > 0 {
-        let first = run.first;
-        say_first(run.at, first);
+        say_first(output, run.at, run.first)?;
     }
+    Ok(())
 }
 
-fn main() {
+fn main(rt: HostRuntime) -> io::Result<()> {
     let mut buf = [0u8; 10264];
     let mut out = [0.0f32; 16384];
     let mut cells = [0.0f32; 65536];
     let mut regs = [0u64; 1024];
     let mut scr = [0.0f32; 16384];
-    let run = run_all(&mut buf, &mut out, &mut cells, &mut regs, &mut scr);
-    report(run);
+    let run = run_all(
+        &mut rt.stdin(),
+        &mut buf,
+        &mut out,
+        &mut cells,
+        &mut regs,
+        &mut scr,
+    )?;
+    report(&mut rt.stdout(), run)
 }

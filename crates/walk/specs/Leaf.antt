@@ -16,7 +16,7 @@ use Rattle.layout.specs.Built.{Role, out, silent, role, built, is_built, begin, 
 use Rattle.layout.specs.Good.{good}
 use Rattle.layout.specs.Tables.{role_code}
 use Rattle.layout.specs.Counts.{layout_of}
-use Rattle.layout.specs.Contents.{Value, one_value, two-values, no-links}
+use Rattle.layout.proofs.Contents.{Value, one_value, two-values, no-links}
 use Rattle.unit.specs.Own.{Own, silence}
 use Rattle.unit.specs.Unit.{unit_of}
 use Rattle.unit.specs.Voice.{voice, tree_kind, entered, playing}

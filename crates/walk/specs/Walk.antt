@@ -20,7 +20,7 @@ use Rattle.layout.specs.Built.{role, built, begin, after}
 use Rattle.layout.specs.Needs.{cells, registers, scratch, cells_by, registers_by, cells_from, registers_from, scratch_from}
 use Rattle.layout.specs.Tables.{Table, Passed, role_code}
 use Rattle.layout.specs.Good.{good}
-use Rattle.layout.specs.Laws.{playable}
+use Rattle.layout.proofs.Laws.{playable}
 use Rattle.layout.specs.Counts.{cells-built, registers-built}
 use Rattle.sheet.specs.Laws.{sum-suc, never, both}
 use Rattle.unit.specs.Own.{Own, Ugen, silence}

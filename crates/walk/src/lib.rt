@@ -1,5 +1,7 @@
 // The walk over the records of a voice, a block at a time: each record over the whole block before the next. The source function enters
 // a chain, and the chain function enters its source stage; along a chain goes a loop, so the stack is as deep as nodes nest.
+#![tactic(auto)]
+
 ghost use Rattle.std.specs.Prelude.{◌≡◌, true, false, [], map, ◌+◌, ◌≤◌, ◌<◌, length, ◌≢◌};
 ghost use Rattle.tree.specs.Comm.{zip};
 ghost use Rattle.sheet.specs.Record.{kind};

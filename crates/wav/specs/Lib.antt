@@ -1,3 +1,2 @@
 pub mod Wav
-pub mod Laws
 pub mod Cases

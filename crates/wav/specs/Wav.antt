@@ -43,9 +43,9 @@ abbrev pub full_scale : Float
 full_scale = of_bits binary32 0x46ff_fe00
 
 -- a sample's 16 bits: from -1 to 1, a half away from zero, and 0 for a NaN
-unfoldable pub pcm16Of : Float → ℕ
-pcm16Of x = twos_complement (to_signed 15 (round_of binary32 (clamp_of x (neg one) one ⊗ full_scale)))
+unfoldable pub pcm16_of : Float → ℕ
+pcm16_of x = twos_complement (to_signed 15 (round_of binary32 (clamp_of x (neg one) one ⊗ full_scale)))
 
 unfoldable pub bytes_of : List Float → List ℕ
 bytes_of [] = []
-bytes_of (x ∷ xs) = little_endian 2 (pcm16Of x) ++ bytes_of xs
+bytes_of (x ∷ xs) = little_endian 2 (pcm16_of x) ++ bytes_of xs

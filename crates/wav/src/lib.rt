@@ -1,8 +1,10 @@
 // A WAVE file of 16-bit PCM, one channel: its header, and samples as its bytes.
+#![tactic(auto)]
+
 ghost use Rattle.std.specs.Prelude.{◌≡◌, ◌++◌, ◌+◌, ◌*◌, ◌≤◌, ◌<◌, ◌^◌, ◌%◌, min, length, drop};
 ghost use Rattle.std.proofs.lemmas.List.Edits.{sets};
 ghost use Rattle.std.specs.Float.Ieee.{to_signed};
-ghost use Rattle.wav.specs.Wav.{little_endian, header_of, twos_complement, pcm16Of, bytes_of};
+ghost use Rattle.wav.specs.Wav.{little_endian, header_of, twos_complement, pcm16_of, bytes_of};
 
 fn low(x: u32) -> u8
     ensures { result ≡ x % 256 }
@@ -51,7 +53,7 @@ fn signed16(y: f32) -> u16
 
 // A sample by its 16 bits. The range of an i16 has one number more below 0 than above it, which no sample gives.
 pub fn pcm16(x: f32) -> u16
-    ensures { result ≡ pcm16Of x }
+    ensures { result ≡ pcm16_of x }
 {
     signed16(rounding::round(float::clamp(x, -1.0, 1.0) * 32767.0))
 }

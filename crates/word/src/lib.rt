@@ -1,3 +1,5 @@
+#![tactic(auto)]
+
 ghost use Rattle.std.specs.Prelude.{◌≡◌, ◌*◌, ◌/◌, ◌%◌, ◌^◌, bit_xor};
 
 // Rust's a.wrapping_mul(b), by halves of 32 bits: the product of the upper halves drops out. It compiles to one multiplication.

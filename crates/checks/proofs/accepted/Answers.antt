@@ -1,0 +1,8 @@
+-- `checks::accepted` meets its contract. Assumes nothing.
+use native.Mathlib.Omega.{arith}
+use borrow.Author.Rules.{rules}
+use Rattle.sheet.specs.Accepted.{rows-most}
+use Rattle.checks.proofs.accepted.Goals as goal
+
+pub check-requires : goal.check-requires
+check-requires c = (rows-most _ _ (omega arith), omega arith, omega arith)

@@ -1,0 +1,110 @@
+// What the programs of this repository read and print: a buffer of bytes that is filled, bytes, and numbers as text.
+// Each function takes the reader or the writer, so that a clause can name its bytes where they are known.
+#![tactic(auto)]
+
+ghost use Rattle.std.specs.Prelude.{ℕ, OnErr, ◌<◌, ◌≤◌, take, length, codes, decimal, IfOk, OnOk, ◌++◌};
+ghost use Rattle.std.specs.Io.KnownBytes.{Appends, Consumes, IsAtEnd};
+ghost use Rattle.console.specs.Hex.{hex};
+
+use std::io;
+use std::io::{Read, Write};
+
+// Reads until `buf` is full or the input ends, and returns how many bytes came: they stand at the start of `buf`.
+pub fn read_full<R: Read>(input: &mut R, buf: &mut [u8]) -> io::Result<usize>
+    ensures within { IfOk result (λ n. n ≤ length buf.new) }
+    ensures bytes { IfOk result (λ n. Consumes (R.remaining input.old) (R.remaining input.new) (take n buf.new)) }
+    ensures end { IfOk result (λ n. n < length buf.new → IsAtEnd (R.remaining input.new)) }
+    ensures err { OnErr result ((n : ℕ) × (n ≤ length buf.new) × Consumes (R.remaining input.old) (R.remaining input.new) (take n buf.new)) }
+{
+    let mut done = 0;
+    while done < buf.len() {
+        let n = input.read(&mut buf[done..])?;
+        if n == 0 {
+            return Ok(done);
+        }
+        done += n;
+    }
+    Ok(done)
+}
+
+pub fn say<W: Write>(output: &mut W, text: &[u8]) -> io::Result<()>
+    ensures { OnOk result (Appends (W.contents output.old) (W.contents output.new) text.now) }
+{
+    output.write_all(text)
+}
+
+// The digits of `n`, with no line end.
+pub fn say_decimal<W: Write>(output: &mut W, n: u64) -> io::Result<()>
+    ensures { OnOk result (Appends (W.contents output.old) (W.contents output.new) (decimal n)) }
+{
+    write!(output, "{n}")
+}
+
+// The hexadecimal digits of `n`, in lower case, with zeros in front up to so many digits.
+pub fn say_hex<W: Write>(output: &mut W, n: u64, digits: usize) -> io::Result<()>
+    ensures { OnOk result (Appends (W.contents output.old) (W.contents output.new) (hex digits n)) }
+{
+    write!(output, "{n:0digits$x}")
+}
+
+// A line that names a number.
+pub fn say_count<W: Write>(output: &mut W, name: &[u8], n: u64) -> io::Result<()>
+    ensures { OnOk result (Appends (W.contents output.old) (W.contents output.new) (name.now ++ (decimal n ++ codes "\n"))) }
+{
+    say(output, name)?;
+    say_decimal(output, n)?;
+    say(output, b"\n")
+}
+
+#[cfg(test)]
+mod tests {
+    use super::*;
+
+    #[test]
+    fn reads_until_full_or_ended(rt: HostRuntime) -> io::Result<()> {
+        let mut input: &[u8] = b"abcde";
+        let mut buf = [0u8; 4];
+        assert_eq!(rt; read_full(&mut input, &mut buf)?, 4);
+        assert_eq!(rt; buf, *b"abcd");
+        assert_eq!(rt; read_full(&mut input, &mut buf)?, 1);
+        assert_eq!(rt; buf[0], b'e');
+        assert_eq!(rt; read_full(&mut input, &mut buf)?, 0);
+        Ok(())
+    }
+
+    // Gives one byte, and then fails.
+    #[derive(Drop)]
+    struct Broken {
+        gave: bool,
+    }
+
+    impl Read for Broken {
+        fn read(&mut self, buf: &mut [u8]) -> io::Result<usize> {
+            if self.gave || buf.is_empty() {
+                return Err(io::Error::from(io::ErrorKind::Other));
+            }
+            self.gave = true;
+            buf[0] = b'a';
+            Ok(1)
+        }
+    }
+
+    #[test]
+    fn failed_read_is_an_error(rt: HostRuntime) {
+        let mut input = Broken { gave: false };
+        let mut buf = [0u8; 4];
+        assert!(rt; read_full(&mut input, &mut buf).is_err());
+    }
+
+    #[test]
+    fn prints_numbers(rt: HostRuntime) -> io::Result<()> {
+        let mut output = Vec::new(rt.alloc());
+        say_count(&mut output, b"cases ", 1208)?;
+        say_hex(&mut output, 0x3f000000, 8)?;
+        say_hex(&mut output, 0x1f, 16)?;
+        say_hex(&mut output, 0x12345, 2)?;
+        let text = str::from_utf8(output.as_slice()).unwrap_or("no text");
+        assert_eq!(rt; text, "cases 1208\n3f000000000000000000001f12345");
+        Ok(())
+    }
+}

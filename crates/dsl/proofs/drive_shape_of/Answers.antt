@@ -1,0 +1,16 @@
+-- `dsl::drive_shape_of` meets its contract. Assumes nothing.
+use borrow.Author.Tests.{eq-eqb, ne_eqb}
+use Rattle.dsl.specs.Options.{drive_shape_of}
+use Rattle.dsl.proofs.drive_shape_of.Goals as goal
+
+pub returns-then-k-eq0 : goal.returns-then-k-eq0
+unfolding drive_shape_of
+returns-then-k-eq0 c = rw (eq-eqb _ _ c.if-k-eq0.true)
+
+pub returns-then-k-eq1 : goal.returns-then-k-eq1
+unfolding drive_shape_of
+returns-then-k-eq1 c = rw (ne_eqb _ _ c.if-k-eq0.false, eq-eqb _ _ c.if-k-eq1.true)
+
+pub returns : goal.returns
+unfolding drive_shape_of
+returns c = rw (ne_eqb _ _ c.if-k-eq0.false, ne_eqb _ _ c.if-k-eq1.false)

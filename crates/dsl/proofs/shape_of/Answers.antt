@@ -1,0 +1,20 @@
+-- `dsl::shape_of` meets its contract. Assumes nothing.
+use borrow.Author.Tests.{eq-eqb, ne_eqb}
+use Rattle.dsl.specs.Options.{shape_of}
+use Rattle.dsl.proofs.shape_of.Goals as goal
+
+pub returns-then-n-eq0 : goal.returns-then-n-eq0
+unfolding shape_of
+returns-then-n-eq0 c = rw (eq-eqb _ _ c.if-n-eq0.true)
+
+pub returns-then-n-eq1 : goal.returns-then-n-eq1
+unfolding shape_of
+returns-then-n-eq1 c = rw (ne_eqb _ _ c.if-n-eq0.false, eq-eqb _ _ c.if-n-eq1.true)
+
+pub returns-then-n-eq2 : goal.returns-then-n-eq2
+unfolding shape_of
+returns-then-n-eq2 c = rw (ne_eqb _ _ c.if-n-eq0.false, ne_eqb _ _ c.if-n-eq1.false, eq-eqb _ _ c.if-n-eq2.true)
+
+pub returns : goal.returns
+unfolding shape_of
+returns c = rw (ne_eqb _ _ c.if-n-eq0.false, ne_eqb _ _ c.if-n-eq1.false, ne_eqb _ _ c.if-n-eq2.false)

@@ -1,0 +1,16 @@
+-- `dsp::modal_coeffs` meets its contract. Assumes nothing.
+use mathlib.Core.Path.{◌≡◌, refl}
+use lib.Ieee.{binary32, neg, of_bits}
+use borrow.Author.Rules.{rules}
+use Rattle.dsp.specs.Coefficients.{modal_of}
+use Rattle.dsp.proofs.modal_coeffs.Goals as goal
+
+-- the code has the number -ln 1000 as one literal
+minus : neg (of_bits binary32 0x40dd_0c54) ≡ of_bits binary32 0xc0dd_0c54
+unfolding neg of_bits
+minus = refl
+
+pub returns : goal.returns
+unfolding modal_of
+returns c =
+    rw (c.cos-cos0.ensures, c.sin-sin0.ensures, c.exp-r.ensures, c.max-2.ensures, c.clamp-f0.ensures, c.max.ensures, c.u32_to_f32-srf.ensures, minus)

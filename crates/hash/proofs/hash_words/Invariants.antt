@@ -1,0 +1,15 @@
+-- `hash::hash_words` meets its contract: what is hashed so far is the part before k. Assumes nothing.
+use mathlib.Core.Path.{◌≡◌, refl, sym, ap, ◌∙◌}
+use Prim.Native.Nat.{ℕ, ◌-◌, ◌≤◌, ◌<◌}
+use native.Mathlib.Omega.{arith}
+use lib.ListN.{length, take, get_or}
+use lib.Seq.{take_all}
+use borrow.Author.Rules.{rules}
+use Rattle.hash.specs.Hash.{mixed, hashed, same, hashed-more}
+use Rattle.hash.proofs.hash_words.Given as goal
+
+abbrev pub invariant-loop-k : goal.invariant-loop-k
+invariant-loop-k l = (l.k ≤ length l.words) × (l.h ≡ hashed same l.first (take l.k l.words))
+
+abbrev pub decreases-loop-k : goal.decreases-loop-k
+decreases-loop-k l = length l.words - l.k

@@ -1,0 +1,5 @@
+pub mod Roles
+pub mod Contents
+pub mod Played
+pub mod Laws
+pub mod Tables

@@ -1,0 +1,5 @@
+pub mod Samples
+pub mod Laws
+pub mod Cut
+pub mod Valid
+pub mod Build

@@ -1,0 +1,22 @@
+-- `osc_block::sine_arguments` meets its contract. Assumes nothing.
+use mathlib.Core.Path.{refl}
+use Prim.Native.Nat.{◌-◌}
+use native.Mathlib.Omega.{arith}
+use lib.ListN.{length}
+use lib.Ieee.{nan}
+use Rattle.block.specs.Loop.{Going, going_start, going-turn, going_end}
+use Rattle.osc_block.specs.Steps.{sine_argument_step}
+use borrow.Author.Rules.{rules}
+use Rattle.osc_block.proofs.sine_arguments.Goals as goal
+
+pub loop-k-init : goal.loop-k-init
+loop-k-init c = going_start nan _ _ _
+
+pub loop-k-preserved : goal.loop-k-preserved
+unfolding sine_argument_step
+loop-k-preserved c =
+    let l = c.loop-k in
+    going-turn nan _ _ _ l.invariant (omega arith) refl c.phase_next-p.ensures
+
+pub returns : goal.returns
+returns c = going_end nan _ _ _ c.loop-k.invariant (omega arith)

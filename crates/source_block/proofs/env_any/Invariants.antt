@@ -1,0 +1,16 @@
+-- `source_block::env_any` meets its contract. Assumes nothing.
+use mathlib.Core.Path.{refl}
+use Prim.Native.Nat.{◌-◌}
+use native.Mathlib.Omega.{arith}
+use lib.ListN.{length}
+use lib.Ieee.{nan}
+use Rattle.block.specs.Loop.{Going, going_start, going-turn, going_end}
+use Rattle.source_block.specs.Steps.{env_step}
+use borrow.Author.Rules.{rules}
+use Rattle.source_block.proofs.env_any.Given as goal
+
+abbrev pub invariant-loop-k : goal.invariant-loop-k
+invariant-loop-k l = Going nan (env_step l.a l.d l.s l.r l.punch l.srf l.rel_start l.t) tt l.initial.out l.k l.out tt
+
+abbrev pub decreases-loop-k : goal.decreases-loop-k
+decreases-loop-k l = length l.initial.out - l.k

@@ -1,0 +1,18 @@
+-- `source_block::env_levels` meets its contract. Assumes nothing.
+use mathlib.Core.Path.{refl, ap, ◌∙◌}
+use Prim.Native.Nat.{◌-◌}
+use native.Mathlib.Nat.{le_refl}
+use native.Mathlib.Omega.{arith}
+use lib.ListN.{length}
+use lib.Ieee.{Float, nan}
+use Rattle.block.specs.Loop.{Going, going_start, going-turn, going_end}
+use Rattle.envelope.specs.Envelope.{adsr_of}
+use Rattle.source_block.specs.Steps.{env_level_step}
+use borrow.Author.Rules.{rules}
+use Rattle.source_block.proofs.env_levels.Given as goal
+
+abbrev pub invariant-loop-k : goal.invariant-loop-k
+invariant-loop-k l = Going nan (env_level_step l.initial.out l.a l.d l.s l.r l.punch l.rel_start) tt l.initial.out l.k l.out tt
+
+abbrev pub decreases-loop-k : goal.decreases-loop-k
+decreases-loop-k l = length l.initial.out - l.k

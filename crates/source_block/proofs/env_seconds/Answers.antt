@@ -1,0 +1,20 @@
+-- `source_block::env_seconds` meets its contract. Assumes nothing.
+use mathlib.Core.Path.{refl}
+use Prim.Native.Nat.{◌-◌}
+use native.Mathlib.Omega.{arith}
+use lib.ListN.{length}
+use lib.Ieee.{nan}
+use Rattle.block.specs.Loop.{Going, going_start, going-turn, going_end}
+use Rattle.source_block.specs.Steps.{seconds_step}
+use borrow.Author.Rules.{rules}
+use Rattle.source_block.proofs.env_seconds.Goals as goal
+
+pub loop-k-init : goal.loop-k-init
+loop-k-init c = going_start nan _ _ _
+
+pub loop-k-preserved : goal.loop-k-preserved
+unfolding seconds_step
+loop-k-preserved c = going-turn nan _ _ _ c.loop-k.invariant (omega arith) c.seconds_small.ensures refl
+
+pub returns : goal.returns
+returns c = (going_end nan _ _ _ c.loop-k.invariant (omega arith)).0

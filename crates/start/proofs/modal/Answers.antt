@@ -1,0 +1,88 @@
+-- `start::modal` meets its contract. What is written and what the rest of the chain starts with are the whole. Assumes nothing.
+use mathlib.Core.Path.{◌≡◌, refl, ap, ◌∙◌}
+use mathlib.Core.List.{◌++◌}
+use Prim.Native.Nat.{◌+◌, ◌*◌, ◌≤◌, ◌<◌}
+use native.Mathlib.Omega.{arith}
+use lib.ListN.{length, take, length-take, length-drop}
+use Rattle.sheet.specs.Laws.{rest}
+use Rattle.sheet.specs.Tree.{records, spine}
+use Rattle.layout.specs.Counts.{walk_turn, walk-done, walk-most}
+use Rattle.start.specs.Cells.{chain_start, mode-length, mode-back, mode-is, modal-turn, modal-end}
+use borrow.Author.Rules.{rules}
+use Rattle.start.proofs.modal.Goals as goal
+
+pub loop-j-init : goal.loop-j-init
+loop-j-init c =
+    (c.requires.2, refl, omega arith, omega (arith, walk-most c.args.sheet.now c.args.count c.requires.0 c.args.f c.requires.2), refl)
+
+pub slice_bounds-mode-end-in-loop-j : goal.slice_bounds-mode-end-in-loop-j
+slice_bounds-mode-end-in-loop-j c =
+    let l = c.loop-j in
+    omega (arith, (walk_turn c.args.sheet.now c.args.count c.requires.0 c.args.nexts.now c.requires.1 l.j c.loop-j-test.true l.invariant.0).0)
+
+pub mode-requires : goal.mode-requires
+mode-requires c =
+    let l = c.loop-j in
+    let w = (walk_turn c.args.sheet.now c.args.count c.requires.0 c.args.nexts.now c.requires.1 l.j c.loop-j-test.true l.invariant.0).0 in
+    (simp (length-take, length-drop) (omega (arith, c.requires.0.long)), mode-length l.own l.at (omega arith))
+
+pub loop-j-smaller : goal.loop-j-smaller
+loop-j-smaller c =
+    let l = c.loop-j in
+    omega (arith, (walk_turn c.args.sheet.now c.args.count c.requires.0 c.args.nexts.now c.requires.1 l.j c.loop-j-test.true l.invariant.0).0)
+
+pub loop-j-preserved : goal.loop-j-preserved
+loop-j-preserved c =
+    let l = c.loop-j in
+    let w = walk_turn c.args.sheet.now c.args.count c.requires.0 c.args.nexts.now c.requires.1 l.j c.loop-j-test.true l.invariant.0 in
+    let m = c.mode.ensures ∙ mode-is c.args.sheet.now l.j _ _ (rest c.args.sheet.now (24 + 40 * l.j)) c.rate-rate.ensures in
+    let h : l.at + 5 ≤ length l.own = omega (arith, w.0) in
+    let b = mode-back l.own c.mode.new.own l.at h (ap length c.mode.ensures) in (
+      w.1,
+      b ∙ l.invariant.1,
+      omega (arith, w.0, b),
+      omega (arith, b),
+      modal-turn c.args.sheet.now c.args.count c.requires.0 c.args.nexts.now c.requires.1 l.j c.loop-j-test.true l.invariant.0 l.own _ _ l.at h m _ l.invariant.4,
+    )
+
+pub shape_of-own : goal.shape_of-own
+shape_of-own c = c.loop-j.invariant.1
+
+pub returns : goal.returns
+returns c =
+    let l = c.loop-j in
+    let z = c.loop-j-test.false in
+    modal-end c.args.sheet.now c.args.count c.requires.0 l.j z l.own l.at (omega (arith, walk-done c.args.sheet.now c.args.count c.requires.0 l.j z)) _ l.invariant.4
+
+pub overflow_mul-a : goal.overflow_mul-a
+overflow_mul-a c = omega arith
+
+pub overflow_add-a : goal.overflow_add-a
+overflow_add-a c = omega arith
+
+pub overflow_add-e : goal.overflow_add-e
+overflow_add-e c = omega arith
+
+pub slice_bounds-mode-count : goal.slice_bounds-mode-count
+slice_bounds-mode-count c = omega arith
+
+pub slice_bounds-mode-start : goal.slice_bounds-mode-start
+slice_bounds-mode-start c = omega arith
+
+pub slice_bounds-mode-end : goal.slice_bounds-mode-end
+slice_bounds-mode-end c = omega arith
+
+pub offset_bounds-own-at : goal.offset_bounds-own-at
+offset_bounds-own-at c = omega arith
+
+pub slice_bounds-mode-count-in-loop-j : goal.slice_bounds-mode-count-in-loop-j
+slice_bounds-mode-count-in-loop-j c = omega arith
+
+pub slice_bounds-mode-start-in-loop-j : goal.slice_bounds-mode-start-in-loop-j
+slice_bounds-mode-start-in-loop-j c = omega arith
+
+pub offset_bounds-nexts-j : goal.offset_bounds-nexts-j
+offset_bounds-nexts-j c = omega arith
+
+pub bounds-nexts-j : goal.bounds-nexts-j
+bounds-nexts-j c = omega arith

@@ -1,0 +1,9 @@
+-- `start::rand_register` meets its contract. One word. Assumes nothing.
+use mathlib.Core.Path.{ap, ◌∙◌}
+use mathlib.Core.List.{[], ◌∷◌}
+use Rattle.tree.specs.Lists.{one-stored}
+use borrow.Author.Rules.{rules}
+use Rattle.start.proofs.rand_register.Goals as goal
+
+pub returns : goal.returns
+returns c = one-stored c.args.own.now c.requires.1 ∙ ap (λ d. d.word ∷ []) c.rand_draws-d.ensures

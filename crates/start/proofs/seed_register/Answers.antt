@@ -1,0 +1,9 @@
+-- `start::seed_register` meets its contract. One word. Assumes nothing.
+use mathlib.Core.Path.{ap, ◌∙◌}
+use mathlib.Core.List.{[], ◌∷◌}
+use Rattle.tree.specs.Lists.{one-stored}
+use borrow.Author.Rules.{rules}
+use Rattle.start.proofs.seed_register.Goals as goal
+
+pub returns : goal.returns
+returns c = one-stored c.args.own.now c.requires ∙ ap (λ w. w ∷ []) c.node_seed.ensures

@@ -1,0 +1,12 @@
+-- `start_values::compress` meets its contract. The envelope 0, then what is worked out once. Assumes nothing.
+use native.Mathlib.Omega.{arith}
+use lib.ListN.{length-set}
+use Rattle.start_values.specs.Written.{zeroed}
+use borrow.Author.Rules.{rules}
+use Rattle.start_values.proofs.compress.Goals as goal
+
+pub bounds-own-3 : goal.bounds-own-3
+bounds-own-3 c = simp length-set (omega arith)
+
+pub returns : goal.returns
+returns c = rw (c.follower_coeffs-f.ensures, c.powf-makeup.ensures, c.number-3.ensures, c.number-2.ensures, c.number.ensures, zeroed c.args.own.now c.fill_block.ensures c.requires.1)

@@ -1,0 +1,7 @@
+-- `start_values::filter` meets its contract. Eleven cells, of which two are not 0. Assumes nothing.
+use Rattle.start_values.specs.Written.{quiet-nan, zeroed}
+use borrow.Author.Rules.{rules}
+use Rattle.start_values.proofs.filter.Goals as goal
+
+pub returns : goal.returns
+returns c = rw (c.from_bits.ensures, quiet-nan, zeroed c.args.own.now c.fill_block.ensures c.requires)

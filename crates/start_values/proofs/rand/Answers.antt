@@ -1,0 +1,7 @@
+-- `start_values::rand` meets its contract. The two draws and the phase 0. Assumes nothing.
+use Rattle.start_values.specs.Written.{zeroed}
+use borrow.Author.Rules.{rules}
+use Rattle.start_values.proofs.rand.Goals as goal
+
+pub returns : goal.returns
+returns c = rw (c.rand_draws-d.ensures, zeroed c.args.own.now c.fill_block.ensures c.requires.1)

@@ -1,0 +1,8 @@
+-- `start_values::ratio` meets its contract. As its definition. Assumes nothing.
+use Rattle.unit.specs.Start.{start_ratio}
+use borrow.Author.Rules.{rules}
+use Rattle.start_values.proofs.ratio.Goals as goal
+
+pub returns : goal.returns
+unfolding start_ratio
+returns c = rw (c.powf.ensures, c.detuned.ensures)

@@ -1,0 +1,25 @@
+-- `value_block::lfo_levels` meets its contract. Assumes nothing.
+use mathlib.Core.Path.{refl, ap}
+use Prim.Native.Nat.{◌-◌}
+use native.Mathlib.Nat.{le_refl}
+use native.Mathlib.Omega.{arith}
+use lib.ListN.{length}
+use lib.Ieee.{Float, nan}
+use Rattle.float.specs.Single.{◌⊕◌, ◌⊗◌}
+use Rattle.block.specs.Loop.{Going, going_start, going-turn, going_end}
+use Rattle.value_block.specs.Steps.{lfo_level_step}
+use borrow.Author.Rules.{rules}
+use Rattle.value_block.proofs.lfo_levels.Goals as goal
+
+pub loop-k-init : goal.loop-k-init
+loop-k-init c = going_start nan _ _ _
+
+pub loop-k-preserved : goal.loop-k-preserved
+unfolding lfo_level_step
+loop-k-preserved c =
+    let l = c.loop-k in
+    let a = c.args in
+    going-turn nan _ _ _ l.invariant (omega arith) (ap (λ (y : Float). a.center ⊕ a.depth ⊗ y) (l.invariant.todo l.k (le_refl l.k))) refl
+
+pub returns : goal.returns
+returns c = (going_end nan _ _ _ c.loop-k.invariant (omega arith)).0
