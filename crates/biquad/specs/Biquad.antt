@@ -1,6 +1,6 @@
 -- The filters of the RBJ cookbook (Robert Bristow-Johnson, Cookbook formulae for audio EQ biquad filter coefficients), in f32. The rounding order is the Rust's:
 -- A + 1 and A - 1 are rounded first, sums go from the left, and a coefficient is divided by a0 last.
-use Rattle.std.specs.Prelude.{ℕ, pos, Float}
+use Rattle.std.specs.Prelude.{pos, Float}
 use Rattle.std.specs.Float.{binary32}
 use Rattle.std.specs.Float.Ieee.{neg, of_bits, of_int}
 use Rattle.float.specs.Order.{max_of, clamp_of}
@@ -9,17 +9,12 @@ use Rattle.sqrt.specs.Sqrt.{sqrt_of}
 use Rattle.dsp.specs.Math.{sine, cosine, power}
 use Rattle.biquad.specs.declared.FilterKind.{FilterKind}
 use Rattle.biquad.specs.declared.FilterKind.TheVariants.{Low, High, Band, Notch, Peak, LowShelf, HighShelf}
+use Rattle.biquad.specs.declared.Response.{Response}
+use Rattle.biquad.specs.declared.Amplitude.{Amplitude}
 use Rattle.biquad.specs.declared.Coefficients.{Coefficients}
+use Rattle.biquad.specs.declared.Six.{Six}
 
 -- the cookbook's six, before a0 is divided out
-pub record Six : Type 0 where
-  pub b0 : Float
-  pub b1 : Float
-  pub b2 : Float
-  pub a0 : Float
-  pub a1 : Float
-  pub a2 : Float
-
 abbrev pub six : Float → Float → Float → Float → Float → Float → Six
 six b0 b1 b2 a0 a1 a2 = record { b0 = b0; b1 = b1; b2 = b2; a0 = a0; a1 = a1; a2 = a2 }
 
@@ -46,7 +41,7 @@ root_of (Peak g) A = A
 root_of (LowShelf g) A = sqrt_of A
 root_of (HighShelf g) A = sqrt_of A
 
--- ---- the cookbook's table, for c = cos w0 and alpha, of a peak also A, of a shelf also A and R = √A
+-- ---- the cookbook's table, for c = cos w0 and alpha, of a peak also A, of a shelf also A and √A
 abbrev pub lowpass : Float → Float → Six
 lowpass c α = six ((one ⊖ c) ⊘ two) (one ⊖ c) ((one ⊖ c) ⊘ two) (one ⊕ α) (minus_two ⊗ c) (one ⊖ α)
 
@@ -64,9 +59,10 @@ abbrev pub peaking : Float → Float → Float → Six
 peaking c α A = six (one ⊕ α ⊗ A) (minus_two ⊗ c) (one ⊖ α ⊗ A) (one ⊕ α ⊘ A) (minus_two ⊗ c) (one ⊖ α ⊘ A)
 
 -- with s = 2 √A alpha
-abbrev pub low_shelf : Float → Float → Float → Float → Six
-low_shelf c α A R =
-    let s = two ⊗ R ⊗ α in
+abbrev pub low_shelf : Float → Float → Amplitude → Six
+low_shelf c α g =
+    let A = g.amp in
+    let s = two ⊗ g.root ⊗ α in
     six
     (A ⊗ (A ⊕ one ⊖ (A ⊖ one) ⊗ c ⊕ s))
     (two ⊗ A ⊗ (A ⊖ one ⊖ (A ⊕ one) ⊗ c))
@@ -75,9 +71,10 @@ low_shelf c α A R =
     (minus_two ⊗ (A ⊖ one ⊕ (A ⊕ one) ⊗ c))
     (A ⊕ one ⊕ (A ⊖ one) ⊗ c ⊖ s)
 
-abbrev pub high_shelf : Float → Float → Float → Float → Six
-high_shelf c α A R =
-    let s = two ⊗ R ⊗ α in
+abbrev pub high_shelf : Float → Float → Amplitude → Six
+high_shelf c α g =
+    let A = g.amp in
+    let s = two ⊗ g.root ⊗ α in
     six
     (A ⊗ (A ⊕ one ⊕ (A ⊖ one) ⊗ c ⊕ s))
     (minus_two ⊗ A ⊗ (A ⊖ one ⊕ (A ⊕ one) ⊗ c))
@@ -86,14 +83,14 @@ high_shelf c α A R =
     (two ⊗ (A ⊖ one ⊖ (A ⊕ one) ⊗ c))
     (A ⊕ one ⊖ (A ⊖ one) ⊗ c ⊖ s)
 
-unfoldable pub cookbook : FilterKind → Float → Float → Float → Float → Six
-cookbook Low c α A R = lowpass c α
-cookbook High c α A R = highpass c α
-cookbook Band c α A R = bandpass c α
-cookbook Notch c α A R = notched c α
-cookbook (Peak g) c α A R = peaking c α A
-cookbook (LowShelf g) c α A R = low_shelf c α A R
-cookbook (HighShelf g) c α A R = high_shelf c α A R
+unfoldable pub cookbook : FilterKind → Float → Float → Amplitude → Six
+cookbook Low c α g = lowpass c α
+cookbook High c α g = highpass c α
+cookbook Band c α g = bandpass c α
+cookbook Notch c α g = notched c α
+cookbook (Peak dB) c α g = peaking c α g.amp
+cookbook (LowShelf dB) c α g = low_shelf c α g
+cookbook (HighShelf dB) c α g = high_shelf c α g
 
 abbrev pub normal : Six → Coefficients
 normal k = record { b0 = k.b0 ⊘ k.a0; b1 = k.b1 ⊘ k.a0; b2 = k.b2 ⊘ k.a0; a1 = k.a1 ⊘ k.a0; a2 = k.a2 ⊘ k.a0 }
@@ -109,9 +106,9 @@ angle_of fc srf =
 abbrev pub alpha_of : Float → Float → Float
 alpha_of sin q = sin ⊘ (two ⊗ max_of q (of_bits binary32 0x3d4c_cccd))
 
--- with A and R = √A at hand
-unfoldable pub coeffs_of : FilterKind → Float → Float → Float → Float → ℕ → Coefficients
-coeffs_of kind A R fc q sr = let w0 = angle_of fc (of_int binary32 (pos sr)) in normal (cookbook kind (cosine w0) (alpha_of (sine w0) q) A R)
+-- with A and √A at hand
+unfoldable pub coeffs_of : Response → Amplitude → Float → Coefficients
+coeffs_of r g fc = let w0 = angle_of fc (of_int binary32 (pos r.sr)) in normal (cookbook r.kind (cosine w0) (alpha_of (sine w0) r.q) g)
 
-unfoldable pub biquad_of : FilterKind → Float → Float → ℕ → Coefficients
-biquad_of kind fc q sr = coeffs_of kind (gain_of kind) (sqrt_of (gain_of kind)) fc q sr
+unfoldable pub biquad_of : Response → Float → Coefficients
+biquad_of r fc = let A = gain_of r.kind in coeffs_of r (record { amp = A; root = sqrt_of A }) fc

@@ -2,7 +2,7 @@
 #![tactic(auto)]
 
 ghost use Rattle.std.specs.Prelude.{◌≡◌};
-ghost use Rattle.biquad.specs.Biquad.{gain_of, root_of, six, normal, lowpass, highpass, bandpass, notched, peaking, low_shelf, high_shelf, cookbook, angle_of, alpha_of, coeffs_of, biquad_of};
+ghost use Rattle.biquad.specs.Biquad.{gain_of, root_of, normal, lowpass, highpass, bandpass, notched, peaking, low_shelf, high_shelf, cookbook, angle_of, alpha_of, coeffs_of, biquad_of};
 ghost use Rattle.sqrt.specs.Sqrt.{sqrt_of};
 
 const TAU: f32 = 6.2831855;
@@ -19,6 +19,22 @@ pub enum FilterKind {
     HighShelf(f32),
 }
 
+// A filter but for its cutoff.
+#[derive(Clone, Copy)]
+pub struct Response {
+    pub kind: FilterKind,
+    pub q: f32,
+    pub sr: u32,
+}
+
+// The RBJ cookbook's amp, and its square root, which only a shelf reads. They come of the kind alone, so a block of samples with a
+// moving cutoff needs them once.
+#[derive(Clone, Copy)]
+pub struct Amplitude {
+    pub amp: f32,
+    pub root: f32,
+}
+
 // What the filter kernel runs on.
 #[derive(Clone, Copy)]
 pub struct Coefficients {
@@ -29,103 +45,132 @@ pub struct Coefficients {
     pub a2: f32,
 }
 
-// The cookbook's six, with a0 divided out last.
-fn over_a0(b0: f32, b1: f32, b2: f32, a0: f32, a1: f32, a2: f32) -> Coefficients
-    ensures { result ≡ normal (six b0 b1 b2 a0 a1 a2) }
+// The cookbook's six.
+#[derive(Clone, Copy)]
+pub struct Six {
+    pub b0: f32,
+    pub b1: f32,
+    pub b2: f32,
+    pub a0: f32,
+    pub a1: f32,
+    pub a2: f32,
+}
+
+// a0 is divided out last.
+fn over_a0(k: Six) -> Coefficients
+    ensures { result ≡ normal k }
 {
     Coefficients {
-        b0: b0 / a0,
-        b1: b1 / a0,
-        b2: b2 / a0,
-        a1: a1 / a0,
-        a2: a2 / a0,
+        b0: k.b0 / k.a0,
+        b1: k.b1 / k.a0,
+        b2: k.b2 / k.a0,
+        a1: k.a1 / k.a0,
+        a2: k.a2 / k.a0,
     }
 }
 
-fn low(cos: f32, alpha: f32) -> Coefficients
-    ensures { result ≡ normal (lowpass cos alpha) }
+// The cosine and alpha stay two numbers, as the cookbook's formulas have them: a struct would only lengthen each.
+fn low(cos: f32, alpha: f32) -> Six
+    ensures { result ≡ lowpass cos alpha }
 {
-    over_a0(
-        (1.0 - cos) / 2.0,
-        1.0 - cos,
-        (1.0 - cos) / 2.0,
-        1.0 + alpha,
-        -2.0 * cos,
-        1.0 - alpha,
-    )
+    Six {
+        b0: (1.0 - cos) / 2.0,
+        b1: 1.0 - cos,
+        b2: (1.0 - cos) / 2.0,
+        a0: 1.0 + alpha,
+        a1: -2.0 * cos,
+        a2: 1.0 - alpha,
+    }
 }
 
-fn high(cos: f32, alpha: f32) -> Coefficients
-    ensures { result ≡ normal (highpass cos alpha) }
+fn high(cos: f32, alpha: f32) -> Six
+    ensures { result ≡ highpass cos alpha }
 {
-    over_a0(
-        (1.0 + cos) / 2.0,
-        -(1.0 + cos),
-        (1.0 + cos) / 2.0,
-        1.0 + alpha,
-        -2.0 * cos,
-        1.0 - alpha,
-    )
+    Six {
+        b0: (1.0 + cos) / 2.0,
+        b1: -(1.0 + cos),
+        b2: (1.0 + cos) / 2.0,
+        a0: 1.0 + alpha,
+        a1: -2.0 * cos,
+        a2: 1.0 - alpha,
+    }
 }
 
-fn band(cos: f32, alpha: f32) -> Coefficients
-    ensures { result ≡ normal (bandpass cos alpha) }
+fn band(cos: f32, alpha: f32) -> Six
+    ensures { result ≡ bandpass cos alpha }
 {
-    over_a0(alpha, 0.0, -alpha, 1.0 + alpha, -2.0 * cos, 1.0 - alpha)
+    Six {
+        b0: alpha,
+        b1: 0.0,
+        b2: -alpha,
+        a0: 1.0 + alpha,
+        a1: -2.0 * cos,
+        a2: 1.0 - alpha,
+    }
 }
 
-fn notch(cos: f32, alpha: f32) -> Coefficients
-    ensures { result ≡ normal (notched cos alpha) }
+fn notch(cos: f32, alpha: f32) -> Six
+    ensures { result ≡ notched cos alpha }
 {
-    over_a0(1.0, -2.0 * cos, 1.0, 1.0 + alpha, -2.0 * cos, 1.0 - alpha)
+    Six {
+        b0: 1.0,
+        b1: -2.0 * cos,
+        b2: 1.0,
+        a0: 1.0 + alpha,
+        a1: -2.0 * cos,
+        a2: 1.0 - alpha,
+    }
 }
 
-fn peak(cos: f32, alpha: f32, amp: f32) -> Coefficients
-    ensures { result ≡ normal (peaking cos alpha amp) }
+fn peak(cos: f32, alpha: f32, amp: f32) -> Six
+    ensures { result ≡ peaking cos alpha amp }
 {
-    over_a0(
-        1.0 + alpha * amp,
-        -2.0 * cos,
-        1.0 - alpha * amp,
-        1.0 + alpha / amp,
-        -2.0 * cos,
-        1.0 - alpha / amp,
-    )
+    Six {
+        b0: 1.0 + alpha * amp,
+        b1: -2.0 * cos,
+        b2: 1.0 - alpha * amp,
+        a0: 1.0 + alpha / amp,
+        a1: -2.0 * cos,
+        a2: 1.0 - alpha / amp,
+    }
 }
 
-fn low_shelf(cos: f32, alpha: f32, amp: f32, root: f32) -> Coefficients
-    ensures { result ≡ normal (low_shelf cos alpha amp root) }
+fn low_shelf(cos: f32, alpha: f32, a: Amplitude) -> Six
+    ensures { result ≡ low_shelf cos alpha a }
 {
-    let s = 2.0 * root * alpha;
+    let amp = a.amp;
+    let s = 2.0 * a.root * alpha;
     let ap1 = amp + 1.0;
     let am1 = amp - 1.0;
-    over_a0(
-        amp * (ap1 - am1 * cos + s),
-        2.0 * amp * (am1 - ap1 * cos),
-        amp * (ap1 - am1 * cos - s),
-        ap1 + am1 * cos + s,
-        -2.0 * (am1 + ap1 * cos),
-        ap1 + am1 * cos - s,
-    )
+    Six {
+        b0: amp * (ap1 - am1 * cos + s),
+        b1: 2.0 * amp * (am1 - ap1 * cos),
+        b2: amp * (ap1 - am1 * cos - s),
+        a0: ap1 + am1 * cos + s,
+        a1: -2.0 * (am1 + ap1 * cos),
+        a2: ap1 + am1 * cos - s,
+    }
 }
 
-fn high_shelf(cos: f32, alpha: f32, amp: f32, root: f32) -> Coefficients
-    ensures { result ≡ normal (high_shelf cos alpha amp root) }
+fn high_shelf(cos: f32, alpha: f32, a: Amplitude) -> Six
+    ensures { result ≡ high_shelf cos alpha a }
 {
-    let s = 2.0 * root * alpha;
+    let amp = a.amp;
+    let s = 2.0 * a.root * alpha;
     let ap1 = amp + 1.0;
     let am1 = amp - 1.0;
-    over_a0(
-        amp * (ap1 + am1 * cos + s),
-        -2.0 * amp * (am1 + ap1 * cos),
-        amp * (ap1 + am1 * cos - s),
-        ap1 - am1 * cos + s,
-        2.0 * (am1 - ap1 * cos),
-        ap1 - am1 * cos - s,
-    )
+    Six {
+        b0: amp * (ap1 + am1 * cos + s),
+        b1: -2.0 * amp * (am1 + ap1 * cos),
+        b2: amp * (ap1 + am1 * cos - s),
+        a0: ap1 - am1 * cos + s,
+        a1: 2.0 * (am1 - ap1 * cos),
+        a2: ap1 - am1 * cos - s,
+    }
 }
 
-// The RBJ cookbook's amp. It comes of the gain alone, so a block of samples with a moving cutoff needs it once.
+// The amp of a kind.
+#[tactic(auto, unfolding(crate::specs::Biquad::gain_of))]
 pub fn gain(kind: FilterKind) -> f32
     ensures { result ≡ gain_of kind }
 {
@@ -137,7 +182,8 @@ pub fn gain(kind: FilterKind) -> f32
     }
 }
 
-// Its square root, which only a shelf reads: it too is wanted once.
+// Its square root: the kinds that read none have the amp in its place.
+#[tactic(auto, unfolding(crate::specs::Biquad::root_of))]
 pub fn root(kind: FilterKind, amp: f32) -> f32
     ensures { result ≡ root_of kind amp }
 {
@@ -147,22 +193,24 @@ pub fn root(kind: FilterKind, amp: f32) -> f32
     }
 }
 
-// The coefficients of a cosine and an alpha, with the gain and its root at hand.
-pub fn coeffs_at(kind: FilterKind, cos: f32, alpha: f32, amp: f32, root: f32) -> Coefficients
-    ensures { result ≡ normal (cookbook kind cos alpha amp root) }
+// The coefficients of a cosine and an alpha, with the amp and its root at hand.
+#[tactic(auto, unfolding(crate::specs::Biquad::cookbook))]
+pub fn coeffs_at(kind: FilterKind, cos: f32, alpha: f32, a: Amplitude) -> Coefficients
+    ensures { result ≡ normal (cookbook kind cos alpha a) }
 {
-    match kind {
+    over_a0(match kind {
         FilterKind::Low => low(cos, alpha),
         FilterKind::High => high(cos, alpha),
         FilterKind::Band => band(cos, alpha),
         FilterKind::Notch => notch(cos, alpha),
-        FilterKind::Peak(_) => peak(cos, alpha, amp),
-        FilterKind::LowShelf(_) => low_shelf(cos, alpha, amp, root),
-        FilterKind::HighShelf(_) => high_shelf(cos, alpha, amp, root),
-    }
+        FilterKind::Peak(_) => peak(cos, alpha, a.amp),
+        FilterKind::LowShelf(_) => low_shelf(cos, alpha, a),
+        FilterKind::HighShelf(_) => high_shelf(cos, alpha, a),
+    })
 }
 
 // w0, of the cutoff and the sample rate. The larger of the two bounds keeps them in order at a rate below 240.
+#[tactic(auto, unfolding(crate::specs::Biquad::angle_of))]
 pub fn angle(fc: f32, srf: f32) -> f32
     ensures { result ≡ angle_of fc srf }
 {
@@ -178,31 +226,28 @@ pub fn alpha(sin: f32, q: f32) -> f32
     sin / (2.0 * float::max(q, 0.05))
 }
 
-// The coefficients for a cutoff, with the gain and its root at hand.
-pub fn coeffs_rooted(
-    kind: FilterKind,
-    amp: f32,
-    root: f32,
-    fc: f32,
-    q: f32,
-    sr: u32,
-) -> Coefficients
-    ensures { result ≡ coeffs_of kind amp root fc q sr }
+// The coefficients for a cutoff, with the amp and its root at hand.
+#[tactic(auto, unfolding(crate::specs::Biquad::coeffs_of))]
+pub fn coeffs_rooted(r: Response, a: Amplitude, fc: f32) -> Coefficients
+    ensures { result ≡ coeffs_of r a fc }
 {
-    let w0 = angle(fc, cast::u32_to_f32(sr));
-    coeffs_at(kind, dsp::cos(w0), alpha(dsp::sin(w0), q), amp, root)
+    let w0 = angle(fc, cast::u32_to_f32(r.sr));
+    coeffs_at(r.kind, dsp::cos(w0), alpha(dsp::sin(w0), r.q), a)
 }
 
-// The same, with the gain at hand.
-pub fn coeffs_with(kind: FilterKind, amp: f32, fc: f32, q: f32, sr: u32) -> Coefficients
-    ensures { result ≡ coeffs_of kind amp (sqrt_of amp) fc q sr }
+// The same, with the amp at hand.
+#[tactic(auto, using(crate::proofs::Hoisted::rooted))]
+pub fn coeffs_with(r: Response, amp: f32, fc: f32) -> Coefficients
+    ensures { result ≡ coeffs_of r (record { amp = amp; root = sqrt_of amp }) fc }
 {
-    coeffs_rooted(kind, amp, root(kind, amp), fc, q, sr)
+    let root = root(r.kind, amp);
+    coeffs_rooted(r, Amplitude { amp, root }, fc)
 }
 
 // The RBJ cookbook's coefficients for a cutoff, in its order of operations as the Rust has it.
-pub fn biquad_coeffs(kind: FilterKind, fc: f32, q: f32, sr: u32) -> Coefficients
-    ensures { result ≡ biquad_of kind fc q sr }
+#[tactic(auto, unfolding(crate::specs::Biquad::biquad_of))]
+pub fn biquad_coeffs(r: Response, fc: f32) -> Coefficients
+    ensures { result ≡ biquad_of r fc }
 {
-    coeffs_with(kind, gain(kind), fc, q, sr)
+    coeffs_with(r, gain(r.kind), fc)
 }

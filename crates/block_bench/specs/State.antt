@@ -4,11 +4,11 @@ use Rattle.block.specs.Iterate.{at}
 use Rattle.float.specs.Single.{one}
 use Rattle.control.specs.declared.Controls.{Controls}
 use Rattle.rand_value.specs.declared.Rand.{Rand}
-use Rattle.osc_block.specs.declared.Triangle.{Triangle}
-use Rattle.osc_block.specs.declared.Fm.{Fm}
-use Rattle.noise_block.specs.declared.Pink.{Pink}
-use Rattle.noise_block.specs.declared.Brown.{Brown}
-use Rattle.noise_block.specs.declared.Dust.{Dust}
+use Rattle.source.specs.declared.Triangle.{Triangle}
+use Rattle.source.specs.declared.Fm.{Fm}
+use Rattle.unpitched.specs.declared.Pink.{Pink}
+use Rattle.unpitched.specs.declared.Brown.{Brown}
+use Rattle.unpitched.specs.declared.Dust.{Dust}
 use Rattle.filter_step.specs.declared.Filter.{Filter}
 use Rattle.drive_step.specs.declared.Drive.{Drive}
 use Rattle.biquad.specs.declared.FilterKind.{FilterKind}
@@ -17,7 +17,7 @@ abbrev pub word_at : List ℕ → ℕ
 word_at words = get_or words 0 0
 
 abbrev pub rand_of : List Float → List ℕ → Rand
-rand_of cells words = record { word = word_at words; prev = at cells 0; next = at cells 1; phase = at cells 2 }
+rand_of cells words = record { rng = record { state = word_at words }; prev = at cells 0; next = at cells 1; phase = at cells 2 }
 
 abbrev pub triangle_at : List Float → Triangle
 triangle_at cells = record { phase = at cells 0; tri = at cells 1 }
@@ -26,13 +26,13 @@ abbrev pub fm_at : List Float → Fm
 fm_at cells = record { cph = at cells 0; mph = at cells 1 }
 
 abbrev pub pink_at : List Float → List ℕ → Pink
-pink_at cells words = record { word = word_at words; poles = record { b = at cells 0 ∷ at cells 1 ∷ at cells 2 ∷ at cells 3 ∷ at cells 4 ∷ at cells 5 ∷ at cells 6 ∷ [] } }
+pink_at cells words = record { rng = record { state = word_at words }; poles = at cells 0 ∷ at cells 1 ∷ at cells 2 ∷ at cells 3 ∷ at cells 4 ∷ at cells 5 ∷ at cells 6 ∷ [] }
 
 abbrev pub brown_at : List Float → List ℕ → Brown
-brown_at cells words = record { word = word_at words; last = at cells 0 }
+brown_at cells words = record { rng = record { state = word_at words }; last = at cells 0 }
 
 abbrev pub dust_at : List Float → List ℕ → Dust
-dust_at cells words = record { word = word_at words; y = at cells 0 }
+dust_at cells words = record { rng = record { state = word_at words }; y = at cells 0 }
 
 abbrev pub filter_at : List Float → Filter
 filter_at c = record { scale = at c 0; prev_f = at c 1; b0 = at c 2; b1 = at c 3; b2 = at c 4; a1 = at c 5; a2 = at c 6; x1 = at c 7; x2 = at c 8; y1 = at c 9; y2 = at c 10 }

@@ -2,7 +2,6 @@
 // and registers and stored back there, as a fill does it. Slices come first, and each is a pointer and a length to the caller.
 #![tactic(auto)]
 
-mod cells;
 mod processors;
 mod sources;
 mod values;

@@ -21,25 +21,15 @@ pub extern "C" fn block_gain(out: &mut [f32], amount: &[f32])
 fn filter_kind(n: u8, db: f32) -> biquad::FilterKind
     ensures { result ≡ kind_of n db }
 {
-    if n == 0 {
-        return biquad::FilterKind::Low;
+    match n {
+        0 => biquad::FilterKind::Low,
+        1 => biquad::FilterKind::High,
+        2 => biquad::FilterKind::Band,
+        3 => biquad::FilterKind::Notch,
+        4 => biquad::FilterKind::Peak(db),
+        5 => biquad::FilterKind::LowShelf(db),
+        _ => biquad::FilterKind::HighShelf(db),
     }
-    if n == 1 {
-        return biquad::FilterKind::High;
-    }
-    if n == 2 {
-        return biquad::FilterKind::Band;
-    }
-    if n == 3 {
-        return biquad::FilterKind::Notch;
-    }
-    if n == 4 {
-        return biquad::FilterKind::Peak(db);
-    }
-    if n == 5 {
-        return biquad::FilterKind::LowShelf(db);
-    }
-    biquad::FilterKind::HighShelf(db)
 }
 
 fn load_filter(cells: &[f32]) -> filter_step::Filter
@@ -66,9 +56,9 @@ fn store_filter(cells: &mut [f32], s: filter_step::Filter)
     requires { 11 ≤ length cells.old }
     ensures { length cells.new ≡ length cells.old }
 {
-    crate::cells::store3(cells, 1, s.prev_f, s.b0, s.b1);
-    crate::cells::store3(cells, 4, s.b2, s.a1, s.a2);
-    crate::cells::store4(cells, 7, s.x1, s.x2, s.y1, s.y2);
+    cells[1..11].copy_from_slice(&[
+        s.prev_f, s.b0, s.b1, s.b2, s.a1, s.a2, s.x1, s.x2, s.y1, s.y2,
+    ]);
 }
 
 #[unsafe(no_mangle)]
@@ -82,10 +72,11 @@ pub extern "C" fn block_filter(
     sr: u32,
 )
     requires { (length out.old ≤ length cutoff.now) × (11 ≤ length cells.old) }
-    ensures { out.new ≡ given (filter_step out.old cutoff.now (kind_of kind db) q sr) (filter_at cells.old) (length out.old) }
+    ensures { out.new ≡ given (filter_step out.old cutoff.now (record { kind = kind_of kind db; q = q; sr = sr })) (filter_at cells.old) (length out.old) }
 {
     let s = load_filter(cells);
-    let r = proc_block::filter_block(out, cutoff, filter_kind(kind, db), q, sr, s);
+    let kind = filter_kind(kind, db);
+    let r = proc_block::filter_block(out, cutoff, biquad::Response { kind, q, sr }, s);
     store_filter(cells, r);
 }
 
@@ -106,8 +97,8 @@ pub extern "C" fn block_drive(
         dc_x: cells[2],
         dc_y: cells[3],
     };
-    let r = proc_block::drive_block(out, buf, amount, dsl::drive_shape_of(shape), s);
-    crate::cells::store4(cells, 0, r.x_prev, r.f_prev, r.dc_x, r.dc_y);
+    let r = proc_block::drive_block(out, buf, amount, dsl::DriveShape::from(shape), s);
+    cells[..4].copy_from_slice(&[r.x_prev, r.f_prev, r.dc_x, r.dc_y]);
 }
 
 #[unsafe(no_mangle)]
@@ -115,7 +106,7 @@ pub extern "C" fn block_drive_plain(out: &mut [f32], amount: &[f32], shape: u8)
     requires { length out.old ≤ length amount.now }
     ensures { out.new ≡ given (drive_plain_step out.old amount.now (drive_shape_of shape)) tt (length out.old) }
 {
-    proc_block::drive_plain_block(out, amount, dsl::drive_shape_of(shape));
+    proc_block::drive_plain_block(out, amount, dsl::DriveShape::from(shape));
 }
 
 #[unsafe(no_mangle)]
@@ -143,11 +134,16 @@ pub extern "C" fn block_compress(
     ratio: f32,
 )
     requires { (4 ≤ length cells.old) × (length out.old ≤ length buf.old) }
-    ensures { out.new ≡ given (compress_step out.old (at cells.old 1) (at cells.old 2) threshold ratio (at cells.old 3)) (at cells.old 0) (length out.old) }
+    ensures { out.new ≡ given (compress_step out.old (record { at = at cells.old 1; rt = at cells.old 2; threshold = threshold; ratio = ratio; makeup = at cells.old 3 })) (at cells.old 0) (length out.old) }
 {
-    cells[0] = proc_block::compress_block(
-        out, buf, cells[1], cells[2], threshold, ratio, cells[3], cells[0],
-    );
+    let c = proc::Compressor {
+        at: cells[1],
+        rt: cells[2],
+        threshold,
+        ratio,
+        makeup: cells[3],
+    };
+    cells[0] = proc_block::compress_block(out, buf, c, cells[0]);
 }
 
 #[unsafe(no_mangle)]
@@ -174,7 +170,13 @@ pub extern "C" fn block_chorus(
     requires { (t + length out.old < 2 ^ 64) × (1 ≤ length words.old) × (word_at words.old < length line.old) × (length out.old ≤ length buf.old) }
     ensures { out.new ≡ given (chorus_step out.old base swing rate srf mix (length line.old) t) (line.old, word_at words.old) (length out.old) }
 {
-    words[0] = line_block::chorus_block(out, buf, line, base, swing, rate, srf, mix, t, words[0]);
+    let c = line_block::Chorus {
+        base,
+        swing,
+        rate,
+        mix,
+    };
+    words[0] = line_block::chorus_block(out, buf, line, c, srf, t, words[0]);
 }
 
 // The cells are n modes of five each.

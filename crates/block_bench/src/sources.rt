@@ -8,12 +8,21 @@ ghost use Rattle.super_block.specs.Super.{super_step};
 ghost use Rattle.dsl.specs.Options.{super_wave_of};
 ghost use Rattle.block_bench.specs.State.{word_at, triangle_at, fm_at, pink_at, brown_at, dust_at};
 
+use rng::Rng;
+use source::{Fm, Frequencies, Triangle};
+use unpitched::{Brown, Dust, Impact, Pink};
+
 #[unsafe(no_mangle)]
 pub extern "C" fn block_sine(out: &mut [f32], f: &[f32], pitch: &[f32], cells: &mut [f32], srf: f32)
     requires { (length out.old ≤ length f.now) × (length out.old ≤ length pitch.now) × (1 ≤ length cells.old) }
-    ensures { out.new ≡ given (sine_step f.now pitch.now srf) (at cells.old 0) (length out.old) }
+    ensures { out.new ≡ given (sine_step (record { values = f.entry; pitch = pitch.entry; srf = srf })) (at cells.old 0) (length out.old) }
 {
-    cells[0] = osc_block::sine_block(out, f, pitch, srf, cells[0]);
+    let w = Frequencies {
+        values: f,
+        pitch,
+        srf,
+    };
+    cells[0] = osc_block::sine_block(out, w, cells[0]);
 }
 
 #[unsafe(no_mangle)]
@@ -26,17 +35,27 @@ pub extern "C" fn block_square(
     srf: f32,
 )
     requires { (length out.old ≤ length f.now) × (length out.old ≤ length duty.now) × (length out.old ≤ length pitch.now) × (1 ≤ length cells.old) }
-    ensures { out.new ≡ given (square_step f.now duty.now pitch.now srf) (at cells.old 0) (length out.old) }
+    ensures { out.new ≡ given (square_step (record { values = f.entry; pitch = pitch.entry; srf = srf }) duty.now) (at cells.old 0) (length out.old) }
 {
-    cells[0] = osc_block::square_block(out, f, duty, pitch, srf, cells[0]);
+    let w = Frequencies {
+        values: f,
+        pitch,
+        srf,
+    };
+    cells[0] = osc_block::square_block(out, w, duty, cells[0]);
 }
 
 #[unsafe(no_mangle)]
 pub extern "C" fn block_saw(out: &mut [f32], f: &[f32], pitch: &[f32], cells: &mut [f32], srf: f32)
     requires { (length out.old ≤ length f.now) × (length out.old ≤ length pitch.now) × (1 ≤ length cells.old) }
-    ensures { out.new ≡ given (saw_step f.now pitch.now srf) (at cells.old 0) (length out.old) }
+    ensures { out.new ≡ given (saw_step (record { values = f.entry; pitch = pitch.entry; srf = srf })) (at cells.old 0) (length out.old) }
 {
-    cells[0] = osc_block::saw_block(out, f, pitch, srf, cells[0]);
+    let w = Frequencies {
+        values: f,
+        pitch,
+        srf,
+    };
+    cells[0] = osc_block::saw_block(out, w, cells[0]);
 }
 
 #[unsafe(no_mangle)]
@@ -48,13 +67,18 @@ pub extern "C" fn block_triangle(
     srf: f32,
 )
     requires { (length out.old ≤ length f.now) × (length out.old ≤ length pitch.now) × (2 ≤ length cells.old) }
-    ensures { out.new ≡ given (triangle_step f.now pitch.now srf) (triangle_at cells.old) (length out.old) }
+    ensures { out.new ≡ given (triangle_step (record { values = f.entry; pitch = pitch.entry; srf = srf })) (triangle_at cells.old) (length out.old) }
 {
-    let s = osc_block::Triangle {
+    let w = Frequencies {
+        values: f,
+        pitch,
+        srf,
+    };
+    let s = Triangle {
         phase: cells[0],
         tri: cells[1],
     };
-    let r = osc_block::triangle_block(out, f, pitch, srf, s);
+    let r = osc_block::triangle_block(out, w, s);
     cells[0] = r.phase;
     cells[1] = r.tri;
 }
@@ -70,13 +94,18 @@ pub extern "C" fn block_fm(
     srf: f32,
 )
     requires { (length out.old ≤ length f.now) × (length out.old ≤ length index.now) × (length out.old ≤ length pitch.now) × (2 ≤ length cells.old) }
-    ensures { out.new ≡ given (fm_step f.now index.now pitch.now ratio srf) (fm_at cells.old) (length out.old) }
+    ensures { out.new ≡ given (fm_step (record { values = f.entry; pitch = pitch.entry; srf = srf }) index.now ratio) (fm_at cells.old) (length out.old) }
 {
-    let s = osc_block::Fm {
+    let w = Frequencies {
+        values: f,
+        pitch,
+        srf,
+    };
+    let s = Fm {
         cph: cells[0],
         mph: cells[1],
     };
-    let r = osc_block::fm_block(out, f, index, pitch, ratio, srf, s);
+    let r = osc_block::fm_block(out, w, index, ratio, s);
     cells[0] = r.cph;
     cells[1] = r.mph;
 }
@@ -93,9 +122,14 @@ pub extern "C" fn block_super(
     srf: f32,
 )
     requires { (length out.old ≤ length f.now) × (length out.old ≤ length pitch.now) × (length cells.old ≡ 2 * n) }
-    ensures { out.new ≡ given (super_step (super_wave_of wave) n f.now pitch.now srf) cells.old (length out.old) }
+    ensures { out.new ≡ given (super_step (super_wave_of wave) n (record { values = f.entry; pitch = pitch.entry; srf = srf })) cells.old (length out.old) }
 {
-    super_block::super_block(out, f, pitch, dsl::super_wave_of(wave), srf, n, cells);
+    let w = Frequencies {
+        values: f,
+        pitch,
+        srf,
+    };
+    super_block::super_block(out, w, dsl::SuperWave::from(wave), n, cells);
 }
 
 #[unsafe(no_mangle)]
@@ -111,15 +145,12 @@ pub extern "C" fn block_pink(out: &mut [f32], cells: &mut [f32], words: &mut [u6
     requires { (7 ≤ length cells.old) × (1 ≤ length words.old) }
     ensures { out.new ≡ given pink_step (pink_at cells.old words.old) (length out.old) }
 {
-    let b = [
-        cells[0], cells[1], cells[2], cells[3], cells[4], cells[5], cells[6],
-    ];
-    let r = noise_block::pink_block(out, words[0], unpitched::Poles { b });
-    words[0] = r.word;
-    let poles = r.poles;
-    let c = poles.b;
-    crate::cells::store4(cells, 0, c[0], c[1], c[2], c[3]);
-    crate::cells::store3(cells, 4, c[4], c[5], c[6]);
+    let mut poles = [0.0; 7];
+    poles.copy_from_slice(&cells[..7]);
+    let rng = Rng { state: words[0] };
+    let r = noise_block::pink_block(out, Pink { rng, poles });
+    words[0] = r.rng.state;
+    cells[..7].copy_from_slice(&r.poles);
 }
 
 #[unsafe(no_mangle)]
@@ -127,12 +158,12 @@ pub extern "C" fn block_brown(out: &mut [f32], cells: &mut [f32], words: &mut [u
     requires { (1 ≤ length cells.old) × (1 ≤ length words.old) }
     ensures { out.new ≡ given brown_step (brown_at cells.old words.old) (length out.old) }
 {
-    let s = noise_block::Brown {
-        word: words[0],
+    let s = Brown {
+        rng: Rng { state: words[0] },
         last: cells[0],
     };
     let r = noise_block::brown_block(out, s);
-    words[0] = r.word;
+    words[0] = r.rng.state;
     cells[0] = r.last;
 }
 
@@ -147,12 +178,12 @@ pub extern "C" fn block_dust(
     requires { (1 ≤ length cells.old) × (1 ≤ length words.old) }
     ensures { out.new ≡ given (dust_step chance decay) (dust_at cells.old words.old) (length out.old) }
 {
-    let s = noise_block::Dust {
-        word: words[0],
+    let s = Dust {
+        rng: Rng { state: words[0] },
         y: cells[0],
     };
     let r = noise_block::dust_block(out, chance, decay, s);
-    words[0] = r.word;
+    words[0] = r.rng.state;
     cells[0] = r.y;
 }
 
@@ -161,7 +192,7 @@ pub extern "C" fn block_impact(out: &mut [f32], w: u64, norm: f32, t: u64)
     requires { t + length out.old < 2 ^ 64 }
     ensures { out.new ≡ given (impact_step w norm t) tt (length out.old) }
 {
-    source_block::impact_block(out, w, norm, t);
+    source_block::impact_block(out, Impact { w, norm }, t);
 }
 
 #[unsafe(no_mangle)]
@@ -177,7 +208,7 @@ pub extern "C" fn block_env(
     t: u64,
 )
     requires { t + length out.old < 2 ^ 64 }
-    ensures { out.new ≡ given (env_step a d s r punch srf rel_start t) tt (length out.old) }
+    ensures { out.new ≡ given (env_step (record { a = a; d = d; s = s; r = r; punch = punch }) srf rel_start t) tt (length out.old) }
 {
-    source_block::env_block(out, a, d, s, r, punch, srf, rel_start, t);
+    source_block::env_block(out, dsl::Adsr { a, d, s, r, punch }, srf, rel_start, t);
 }

@@ -28,9 +28,15 @@ pub extern "C" fn block_slide(
     t: u64,
 )
     requires { t + length out.old < 2 ^ 64 }
-    ensures { out.new ≡ given (slide_step (curve_of curve) from to secs srf t) tt (length out.old) }
+    ensures { out.new ≡ given (slide_step (record { from = from; to = to; secs = secs; curve = curve_of curve }) srf t) tt (length out.old) }
 {
-    value_block::slide_block(out, dsl::curve_of(curve), from, to, secs, srf, t);
+    let v = dsl::Slide {
+        from,
+        to,
+        secs,
+        curve: dsl::Curve::from(curve),
+    };
+    value_block::slide_block(out, v, srf, t);
 }
 
 #[unsafe(no_mangle)]
@@ -44,9 +50,15 @@ pub extern "C" fn block_lfo(
     t: u64,
 )
     requires { t + length out.old < 2 ^ 64 }
-    ensures { out.new ≡ given (lfo_step (shape_of shape) rate depth center srf t) tt (length out.old) }
+    ensures { out.new ≡ given (lfo_step (record { shape = shape_of shape; rate = rate; depth = depth; center = center }) srf t) tt (length out.old) }
 {
-    value_block::lfo_block(out, dsl::shape_of(shape), rate, depth, center, srf, t);
+    let v = dsl::Lfo {
+        shape: dsl::Shape::from(shape),
+        rate,
+        depth,
+        center,
+    };
+    value_block::lfo_block(out, v, srf, t);
 }
 
 #[unsafe(no_mangle)]
@@ -64,9 +76,10 @@ pub extern "C" fn block_env_mod(
     t: u64,
 )
     requires { t + length out.old < 2 ^ 64 }
-    ensures { out.new ≡ given (env_mod_step a d s r punch from to srf rel_start t) tt (length out.old) }
+    ensures { out.new ≡ given (env_mod_step (record { env = record { a = a; d = d; s = s; r = r; punch = punch }; from = from; to = to }) srf rel_start t) tt (length out.old) }
 {
-    value_block::env_mod_block(out, a, d, s, r, punch, from, to, srf, rel_start, t);
+    let env = dsl::Adsr { a, d, s, r, punch };
+    value_block::env_mod_block(out, dsl::EnvMod { env, from, to }, srf, rel_start, t);
 }
 
 #[unsafe(no_mangle)]
@@ -82,14 +95,14 @@ pub extern "C" fn block_rand(
     ensures { out.new ≡ given (rand_step inc from to) (rand_of cells.old words.old) (length out.old) }
 {
     let s = rand_value::Rand {
-        word: words[0],
+        rng: rng::Rng { state: words[0] },
         prev: cells[0],
         next: cells[1],
         phase: cells[2],
     };
     let r = value_block::rand_block(out, inc, from, to, s);
-    words[0] = r.word;
-    crate::cells::store3(cells, 0, r.prev, r.next, r.phase);
+    words[0] = r.rng.state;
+    cells[..3].copy_from_slice(&[r.prev, r.next, r.phase]);
 }
 
 // The checks of a sheet, for `block_arp`: where they find no fault, 0, next is its table.
@@ -103,7 +116,7 @@ pub extern "C" fn block_check(
     requires { Rows sheet.now (length kinds.old) × (length kinds.old ≤ length first.old) × (length kinds.old ≤ length next.old) }
     ensures { Checked sheet.now kinds.new first.new next.new result }
 {
-    checks::check(sheet, kinds, first, next)
+    refusal::answer(checks::check(sheet, kinds, first, next))
 }
 
 // Record i of a sheet that passes the checks; an Arp owns no cells and no registers.
@@ -123,10 +136,7 @@ pub extern "C" fn block_arp(
 {
     let c = control::Controls {
         position: t,
-        pitch: 1.0,
-        target: 1.0,
-        glide: 1.0,
-        bend: 1.0,
+        ..control::Controls::fresh()
     };
     value_unit::play(sheet, count, nexts, i, 44, c, out, cells, regs);
 }

@@ -1,7 +1,7 @@
 -- What the calls answer and leave, as the sample machine does.
 use Rattle.std.proofs.Math.Path.{◌≡◌, refl, ap}
 use Rattle.std.proofs.Common.{sym, ◌∙◌}
-use Rattle.std.specs.Prelude.{Bool, true, false, cond, ◌&&◌, ◌≢◌, ℕ, ◌+◌, ◌^◌, ◌≤◌, ◌<◌, eqb, leb, drop}
+use Rattle.std.specs.Prelude.{Bool, true, false, cond, ◌&&◌, ◌≢◌, ℕ, ◌+◌, ◌^◌, ◌≤◌, ◌<◌, eqb, leb, drop, Result, Ok, Err}
 use mathlib.Core.List.{List, [], ◌∷◌, ◌++◌}
 use native.Mathlib.Omega.{arith}
 use Rattle.std.proofs.Math.ListN.{length, replicate}
@@ -14,14 +14,25 @@ use Rattle.sheet.specs.Checks.{lowest}
 use Rattle.layout.specs.Needs.{cells_from, registers_from, scratch_from}
 use Rattle.unit.specs.Own.{silence}
 use Rattle.unit.specs.State.{rings_ok}
-use Rattle.walk.specs.Walk.{voiced, Sound}
+use Rattle.walk.specs.Walk.{Sound}
 use Rattle.machine.specs.Machine.{State, state, sound_ok, room_check, fill_check, samples, Answered, cleared, fill_of, scaled}
 use Rattle.machine.proofs.Laws.{room-enough, room-passed}
 use Rattle.machine.proofs.Valid.{rings-all}
 use Rattle.machine.specs.Build.{build_of, started_cells, started_registers}
 use Rattle.control.specs.Moves.{fresh}
-use Rattle.streaming.specs.Run.{Set, Blocked}
+use Rattle.streaming.specs.Run.{Blocked}
+use Rattle.plan.specs.Planned.{Planned}
+use Rattle.refusal.specs.declared.Refusal.{Refusal}
+use Rattle.tables.specs.declared.Tables.{Tables}
 use Rattle.tables.specs.Tables.{Made}
+
+-- the controls after a call that began with c: a refusal leaves them
+abbrev pub controls_of : Controls → Result Controls Refusal → Controls
+controls_of c (Ok r) = r
+controls_of c (Err e) = c
+
+pub controls-err : (c : Controls) {r : Result Controls Refusal} {e : Refusal} → r ≡ Err e → controls_of c r ≡ c
+controls-err c q = rw q refl
 
 -- ---- THE CONTRACTS: from the controls c and the lent cs, rs and zs, an answer a and controls r, and ds, ss and ws are left
 -- a fill of xs: where it is accepted its samples are ys, and where not xs is as it was
@@ -91,17 +102,16 @@ and_right true b e = e
 and_right false b e = let z : ◌≡◌ {A = ℕ} 0 1 = cc in let x : ⊥ = omega arith in absurd x
 
 -- what the run is lent
-pub set-of : {s : List ℕ} {count : ℕ} {firsts nexts acts begins afters places words blocks : List ℕ} → Made s count firsts nexts acts begins afters places words blocks → (nc nr ns : ℕ) → room_check s nc nr ns ≡ 0
-    → Set s count nexts acts begins afters places words blocks ns
-set-of {s} m nc nr ns e = record {
-  voiced = voiced m.passed;
+pub planned_of : {N M : ℕ} {s : List ℕ} {count : ℕ} {t : Tables N M} → Made s count t → Planned s count t.nexts t.acts t.begins t.afters t.places t.words t.blocks
+planned_of m = record {
+  passed = m.passed;
   next_at = m.next_at;
   act_at = m.act_at;
   begin_at = m.begin_at;
   after_at = m.after_at;
   cells_at = m.cells_at;
   registers_at = m.registers_at;
-  scratch = record { scratch_at = m.scratch_at; room = (room-enough s nc nr ns (room-passed s nc nr ns e).1).scratch };
+  scratch_at = m.scratch_at;
 }
 
 pub sound-of : (s : List ℕ) (c : Controls) (cs : List Float) (rs : List ℕ) (ns : ℕ) → room_check s (length cs) (length rs) ns ≡ 0 → sound_ok s c cs rs ≡ true → Sound s cs rs

@@ -2,15 +2,11 @@
 // bits, check 10 by its answer.
 #![tactic(auto)]
 
-use console::say_count;
 use std::io;
 use std::io::Write;
 
-fn say_float(output: &mut impl Write, name: &[u8], x: f32) -> io::Result<()> {
-    say_count(output, name, float::to_bits(x) as u64)
-}
-
-fn check_10(position: u64, length: u64) -> u64 {
+// The answer of check 10.
+fn check_10(position: u64, length: u64) -> u8 {
     if control::positions_left(position, length) {
         0
     } else {
@@ -20,47 +16,29 @@ fn check_10(position: u64, length: u64) -> u64 {
 
 fn main(rt: HostRuntime) -> io::Result<()> {
     let mut output = rt.stdout();
-    let xs = [0.5f32, 0.25f32];
-    say_float(
-        &mut output,
-        b"Arp without steps: ",
-        value::arp(&xs[..0], 2.0, 8000.0, 6000),
-    )?;
-    say_float(
-        &mut output,
-        b"Arp of 0.5 and 0.25, second step: ",
-        value::arp(&xs[..2], 2.0, 8000.0, 6000),
-    )?;
-    say_float(&mut output, b"Mix of none: ", combine::mix(&xs[..0]))?;
-    say_float(
-        &mut output,
-        b"Mix of 0.5 and 0.25: ",
-        combine::mix(&xs[..2]),
-    )?;
-    say_float(&mut output, b"Mul of none: ", combine::mul(&xs[..0]))?;
-    say_float(
-        &mut output,
-        b"Mul of 0.5 and 0.25: ",
-        combine::mul(&xs[..2]),
-    )?;
-    say_count(
-        &mut output,
-        b"Position 2^62 with length 0: ",
-        check_10(4611686018427387904, 0),
-    )?;
-    say_count(
-        &mut output,
-        b"Position 2^62 with length 1: ",
-        check_10(4611686018427387904, 1),
-    )?;
-    say_count(
-        &mut output,
-        b"Position 0 with length 2^62: ",
-        check_10(0, 4611686018427387904),
-    )?;
-    say_count(
-        &mut output,
-        b"Position 1 with length 2^64 - 1: ",
-        check_10(1, 18446744073709551615),
-    )
+    let xs = [0.5f32, 0.25];
+    let floats = [
+        ("Arp without steps", value::arp(&xs[..0], 2.0, 8000.0, 6000)),
+        (
+            "Arp of 0.5 and 0.25, second step",
+            value::arp(&xs, 2.0, 8000.0, 6000),
+        ),
+        ("Mix of none", combine::mix(&xs[..0])),
+        ("Mix of 0.5 and 0.25", combine::mix(&xs)),
+        ("Mul of none", combine::mul(&xs[..0])),
+        ("Mul of 0.5 and 0.25", combine::mul(&xs)),
+    ];
+    for (name, x) in floats {
+        writeln!(output, "{name}: {}", float::to_bits(x))?;
+    }
+    let checks = [
+        ("Position 2^62 with length 0", 1 << 62, 0),
+        ("Position 2^62 with length 1", 1 << 62, 1),
+        ("Position 0 with length 2^62", 0, 1 << 62),
+        ("Position 1 with length 2^64 - 1", 1, u64::MAX),
+    ];
+    for (name, position, length) in checks {
+        writeln!(output, "{name}: {}", check_10(position, length))?;
+    }
+    Ok(())
 }

@@ -1,4 +1,3 @@
-pub mod Long
 pub mod Narrow
 pub mod Normal
 pub mod Small

@@ -1,5 +1,5 @@
--- What the proof of `narrow_normal` cites: an f64 whose nearest f32 is normal, with the last 29 digits of its bit pattern rounded away. Assumes nothing.
-use Rattle.std.proofs.Common.{◌≡◌, ℕ, zero, suc, ◌+◌, ◌-◌, ◌*◌, ◌/◌, ◌%◌, ◌^◌, ◌<◌, ◌≤◌, Bool, true, false, cond, not, ◌&&◌, T, eqb, ltb, leb, ◌⊎◌, ℤ, pos, sym, refl, ap, ◌∙◌, subst, inl, inr, le_of_eq, lt_of_le_of_lt, mul-le-mul_right, mod-lt, mod-eq_of_lt, mul_assoc, div-lt_iff_lt-mul, add-mul, lt_of_mul-lt-mul_right, mul-lt-mul_of_pos_right, div-add-mod', mul_right_comm, arith, lit<, eqb→eq, ltb→lt, leb→le, pow_pos, pow-add}
+-- What the proof of `narrow_normal` cites: an f64 whose nearest f32 is normal, with the last 29 digits of its bit pattern rounded away.
+use Rattle.std.proofs.Common.{◌≡◌, ℕ, zero, suc, ◌+◌, ◌-◌, ◌*◌, ◌/◌, ◌%◌, ◌^◌, ◌<◌, ◌≤◌, Bool, true, false, cond, not, ◌&&◌, T, eqb, leb, ◌⊎◌, pos, sym, refl, ap, ◌∙◌, subst, inl, inr, le_of_eq, lt_of_le_of_lt, mul-le-mul_right, mod-lt, mod-eq_of_lt, mul_assoc, div-lt_iff_lt-mul, lt_of_mul-lt-mul_right, arith, eqb→eq, ltb→lt, leb→le, pow_pos, pow-add}
 use Prim.Native.Nat.{compare, Ordering}
 use lib.Dec.{is_le, compare_is_eq, nleb→lt}
 use lib.Pow.{pow-lt, split}
@@ -10,7 +10,7 @@ use lib.Ieee.Exact.{HasValue, units_val}
 use lib.Ieee.Nearest.{closest}
 use Rattle.ieee.proofs.Tests.{null, yes, no}
 use Rattle.ieee.proofs.Value.{revalue, same-value}
-use Rattle.ieee.proofs.Build.{pw, Kept, build, units-fits}
+use Rattle.ieee.proofs.Build.{pw, build, units-fits}
 use Rattle.ieee.proofs.Whole.{closest-past}
 use Rattle.ieee.proofs.Read.{Seen, seen, level, above-neg, above_no_nan, nothing-below}
 use Rattle.cast.specs.Narrow.{narrow_of}
@@ -87,7 +87,7 @@ kept y F P a b =
     let g = by_field y e t a b s.1 in
     let j = g.0 in
     let Q = closest (2 ^ 52 + t) (2 ^ 29) in
-    let r : Rounds y (2 ^ 52 + t) 29 (e - 897) = large y e t h (from e j g.1 g.2) (to e j g.1 g.3) s.1 in
+    let r : Rounds y (2 ^ 52 + t) (e - 897) = large y e t h (from e j g.1 g.2) (to e j g.1 g.3) s.1 in
     let lo : 2 ^ 23 ≤ Q = subst (λ (z : ℕ). 2 ^ 23 ≤ z) (sym (with_lead t)) (least (closest t (2 ^ 29))) in
     let same : closest B (2 ^ 29) * 2 ^ 29 ≡ j * 2 ^ 52 + Q * 2 ^ 29 = ap (λ (z : ℕ). z * 2 ^ 29) (rounded B) ∙ join e j (closest t (2 ^ 29)) g.1 ∙ ap (λ (z : ℕ). j * 2 ^ 52 + z * 2 ^ 29) (sym (with_lead t)) in
     let wide : units binary64 false (Q * 2 ^ 29) j ≡ units binary32 false Q (e - 897) = widened Q j (e - 897) r.small g.3 (shift e j g.1 g.2) in

@@ -1,4 +1,4 @@
--- What the proof of `small_to_u64` cites: an f32 from 1 to 2 ^ 20 has at most 32 digits after the point, so x + 2 ^ 20 is exact in f64. Assumes nothing.
+-- What the proof of `small_to_u64` cites: an f32 from 1 to 2 ^ 20 has at most 32 digits after the point, so x + 2 ^ 20 is exact in f64.
 use Rattle.std.proofs.Common.{◌≡◌, ℕ, suc, ◌+◌, ◌-◌, ◌*◌, ◌/◌, ◌^◌, ◌<◌, ◌≤◌, true, false, not, ◌&&◌, T, pos, negsuc, sym, refl, ap, ◌∙◌, subst, inr, zero-le, le_trans, le_of_eq, lt_of_lt_of_le, le_of_suc-le-suc, lt_of_le_of_lt, lt_irrefl, zero-lt-suc, mul_assoc, mul_comm, mul-lt-mul_of_pos_right, lt_of_not-le, mul-one, arith, lit≤, ltb→lt, lt→ltb, pow_pos, pow_mono}
 use lib.Ieee.{Float, nan, inf, fin, binary32, binary64, up, down, fits, is_nan, lt, le, units, round, add, of_bits, to_bits, to_unsigned}
 use lib.Ieee.Fits.{fits_widens, and_i}

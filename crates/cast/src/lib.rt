@@ -7,7 +7,7 @@ ghost use Rattle.cast.specs.Narrow.{narrow_of};
 
 // ---- whole numbers to floats: the nearest, a tie to the even one
 
-// Exact. Through i32, the one whole type that every x86-64 converts several at a time.
+// Exact. Through i32, the one whole type that every x86-64 converts several at a time; std's cast of a u64 does not vectorise.
 pub fn small_to_f32(n: u64) -> f32
     requires { n < 16777216 }
     ensures { result ≡ Ieee.of_int binary32 (pos n) }
@@ -15,15 +15,15 @@ pub fn small_to_f32(n: u64) -> f32
     (n as i32) as f32
 }
 
+// Small numbers, which are nearly all, by one instruction.
 pub fn u64_to_f32(n: u64) -> f32
     ensures { result ≡ Ieee.of_int binary32 (pos n) }
 {
     if n < 16777216 {
-        return small_to_f32(n);
+        small_to_f32(n)
+    } else {
+        std::num::nearest_u64_to_f32(n)
     }
-    let k = 40 - (u64::leading_zeros(n) as u64);
-    let q = ieee::closest_shift(n, k);
-    ieee::from_units(k + 149, q)
 }
 
 pub fn u32_to_f32(n: u32) -> f32
@@ -59,50 +59,12 @@ pub fn f32_to_f64(x: f32) -> f64
     std::num::f32_to_f64_with_nan(x)
 }
 
-// Rust's `x as f32` for an x above zero, subnormal and infinite results included.
-fn narrow_above(x: f64) -> f32
-    requires { T (Ieee.lt (fin false 0 (pos 0)) x) }
-    ensures { result ≡ narrow_of x }
-{
-    let bits: u64 = f64::to_bits(x);
-    let field: u64 = bits >> 52;
-    if field < 863 {
-        return 0.0;
-    }
-    if 1150 < field {
-        return 1.0 / 0.0;
-    }
-    let digits: u64 = (bits & 0xf_ffff_ffff_ffff) | 0x10_0000_0000_0000;
-    if field < 897 {
-        let q = ieee::closest_shift(digits, 926 - field);
-        return ieee::from_units(0, q);
-    }
-    let q = ieee::closest_shift(digits, 29);
-    ieee::from_units(field - 897, q)
-}
-
-// The same for every x.
-fn narrow_any(x: f64) -> f32
-    ensures { result ≡ narrow_of x }
-{
-    if x > 0.0 {
-        return narrow_above(x);
-    }
-    if x < 0.0 {
-        return -narrow_above(-x);
-    }
-    if x == x {
-        return x as f32;
-    }
-    0.0 / 0.0
-}
-
 // Where the exponent's field makes the result a normal number, the pattern's last 29 digits are rounded away: what is left is
 // exactly an f32.
 fn narrow_normal(x: f64) -> f32
-    requires fact_1 { T (not (Ieee.is_nan x)) }
-    requires fact_2 { 896 < Ieee.to_bits binary64 x / 2 ^ 52 % 2048 }
-    requires fact_3 { Ieee.to_bits binary64 x / 2 ^ 52 % 2048 < 1150 }
+    requires number { T (not (Ieee.is_nan x)) }
+    requires not_below { 896 < Ieee.to_bits binary64 x / 2 ^ 52 % 2048 }
+    requires not_above { Ieee.to_bits binary64 x / 2 ^ 52 % 2048 < 1150 }
     ensures { result ≡ narrow_of x }
 {
     let bits: u64 = f64::to_bits(x);
@@ -110,39 +72,47 @@ fn narrow_normal(x: f64) -> f32
     f64::from_bits((up >> 29) << 29) as f32
 }
 
-// Rust's `x as f32`: the nearest, a tie to the even one, an infinity where it is too large.
+// Rust's `x as f32`: the nearest, a tie to the even one, an infinity where it is too large. std's works by whole numbers, where a
+// normal result takes one instruction.
 pub fn f64_to_f32(x: f64) -> f32
     ensures { result ≡ narrow_of x }
 {
-    if x == x {
+    if !x.is_nan() {
         let field: u64 = (f64::to_bits(x) >> 52) % 2048;
-        if field > 896 {
-            if field < 1150 {
-                return narrow_normal(x);
-            }
+        if field > 896 && field < 1150 {
+            return narrow_normal(x);
         }
     }
-    narrow_any(x)
+    std::num::nearest_f64_to_f32_with_nan(x)
+}
+
+// An f64 function at an f32, rounded once.
+pub fn narrowed<F: FnOnce(f64) -> f64>(f: F, x: f32) -> f32
+    requires { F.pre f x }
+    ensures { (y : _) × F.post f x y × (result ≡ narrow_of y) }
+{
+    f64_to_f32(f(f32_to_f64(x)))
 }
 
 // ---- floats to whole numbers, toward zero: 0 for a NaN, the nearest end of the range where it is out of it
 
+// std's saturating cast is slower: it widens x first and tests more.
 pub fn f32_to_u64(x: f32) -> u64
     ensures { result ≡ Ieee.to_unsigned 64 x }
 {
     if x >= 18446744073709551616.0 {
-        return 0xffff_ffff_ffff_ffff;
+        u64::MAX
+    } else if x > 0.0 {
+        std::num::truncating_f32_to_u64(x)
+    } else {
+        0
     }
-    if x > 0.0 {
-        return std::num::truncating_f32_to_u64(x);
-    }
-    0
 }
 
 // The same for an x from 1 to 2^20, where x + 2^20 is exact in f64: its pattern has x's whole part from digit 32 on.
 pub fn small_to_u64(x: f32) -> u64
-    requires fact_1 { T (Ieee.le (fin false 1 (pos 0)) x) }
-    requires fact_2 { T (Ieee.lt x (fin false 1 (pos 20))) }
+    requires least { T (Ieee.le (fin false 1 (pos 0)) x) }
+    requires most { T (Ieee.lt x (fin false 1 (pos 20))) }
     ensures { result ≡ Ieee.to_unsigned 64 x }
 {
     let bits: u64 = f64::to_bits((x as f64) + 1048576.0);
@@ -152,14 +122,5 @@ pub fn small_to_u64(x: f32) -> u64
 pub fn f64_to_i64(x: f64) -> i64
     ensures { result ≡ Ieee.to_signed 63 x }
 {
-    if x >= 9223372036854775808.0 {
-        return 9223372036854775807;
-    }
-    if x >= -9223372036854775808.0 {
-        return std::num::truncating_f64_to_i64(x);
-    }
-    if x == x {
-        return -9223372036854775807 - 1;
-    }
-    0
+    std::num::saturating_f64_to_i64(x)
 }

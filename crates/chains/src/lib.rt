@@ -1,18 +1,12 @@
 // Check 6, by the tables: what the chain of each record is made of.
 #![tactic(auto)]
 
-ghost use Rattle.std.specs.Prelude.{◌≡◌, true, ◌<◌, eqb, length};
+ghost use Rattle.std.specs.Prelude.{◌≡◌, cond, ◌<◌, eqb, length, Some, None};
 ghost use Rattle.sheet.specs.Checks.{all, every};
 ghost use Rattle.sheet.specs.Codes.{class_of, want_of, chains_table, classes_table};
 ghost use Rattle.sheet.specs.Links.{LinkedIn, along_in, chain_in};
 
-// The chain of a record: whether each member is of a class, and how many there are where each is.
-#[derive(Clone, Copy)]
-struct Tally {
-    all: bool,
-    count: usize,
-}
-
+// How many members the chain of record i has, where each is of the class. The loop goes along links, so it counts no index.
 fn members(
     classes: &[u8; 53],
     kinds: &[u8],
@@ -20,30 +14,29 @@ fn members(
     next: &[usize],
     i: usize,
     class: u8,
-) -> Tally
+) -> Option<usize>
     requires classes_value { classes.now ≡ classes_table }
     requires linked_in { LinkedIn kinds.now first.now next.now }
     requires i_in_bounds { i < length first.now }
-    ensures all_value { result.all ≡ every (λ k. eqb (class_of k) class) (along_in kinds.now first.now next.now i) }
-    ensures count_value { result.all ≡ true → result.count ≡ length (along_in kinds.now first.now next.now i) }
+    ensures { result ≡ cond (every (λ k. eqb (class_of k) class) (along_in kinds.now first.now next.now i)) (Some (length (along_in kinds.now first.now next.now i))) None }
 {
     let mut count = 0usize;
     let mut j = first[i];
     while j != 0 {
         if sheet::kinds::class(classes, kinds[j]) != class {
-            return Tally { all: false, count };
+            return None;
         }
         count += 1;
         j = next[j];
     }
-    Tally { all: true, count }
+    Some(count)
 }
 
 // What the members of a chain are, by its code.
 fn wanted(c: u8) -> u8
     ensures { result ≡ want_of c }
 {
-    if c < 2 { 2 } else { c }
+    c.max(2)
 }
 
 // 6, of the chain of record i. The codes 0 to 2 are the number of values, and from 3 on the number is free. Half of all
@@ -65,8 +58,10 @@ fn chain_ok(
     if first[i] == 0 {
         return (c == 0) | (2 < c);
     }
-    let m = members(classes, kinds, first, next, i, wanted(c));
-    m.all & ((2 < c) | (m.count == c as usize))
+    match members(classes, kinds, first, next, i, wanted(c)) {
+        Some(count) => (2 < c) | (count == c as usize),
+        None => false,
+    }
 }
 
 fn all_chains(
@@ -80,11 +75,8 @@ fn all_chains(
     requires linked_in { LinkedIn kinds.now first.now next.now }
     ensures { result ≡ all (chain_in kinds.now first.now next.now) (length first.now) }
 {
-    let mut i = 0usize;
-    while i < first.len() {
-        if chain_ok(chains, classes, kinds, first, next, i) {
-            i += 1;
-        } else {
+    for i in 0..first.len() {
+        if !chain_ok(chains, classes, kinds, first, next, i) {
             return false;
         }
     }

@@ -1,9 +1,12 @@
-// Checks 1 to 7 of document 01 in their order: 1 and 2 are here, the others in `records` and `shape`.
+// Checks 1 to 7 in their order: 1 and 2 are here, the others in `records` and `shape`.
 #![tactic(auto)]
 
 ghost use Rattle.std.specs.Prelude.{◌≡◌, ◌≤◌, length};
+ghost use Rattle.refusal.specs.Refusal.{answer_of};
 ghost use Rattle.sheet.specs.Checks.{check_of, length_ok, header_ok};
 ghost use Rattle.sheet.specs.Links.{Rows, Checked};
+
+use refusal::Refusal;
 
 // 1
 fn length_ok(sheet: &[u8]) -> bool
@@ -27,29 +30,31 @@ fn header_ok(sheet: &[u8]) -> bool
 
 // ---- all of them
 
-// The lowest of checks 1 to 7 that applies, or 0. Where it is 0 the tables hold the kind and the links of every record;
+// The lowest of checks 1 to 7 that applies. Where none does the tables hold the kind and the links of every record;
 // after a refusal nothing is promised of them but their lengths.
-pub fn check(sheet: &[u8], kinds: &mut [u8], first: &mut [usize], next: &mut [usize]) -> u8
+pub fn check(
+    sheet: &[u8],
+    kinds: &mut [u8],
+    first: &mut [usize],
+    next: &mut [usize],
+) -> Result<(), Refusal>
     requires { Rows sheet.now (length kinds.old) × (length kinds.old ≤ length first.old) × (length kinds.old ≤ length next.old) }
-    ensures { Checked sheet.now kinds.new first.new next.new result }
+    ensures { Checked sheet.now kinds.new first.new next.new (answer_of result) }
 {
-    if length_ok(sheet) {
-        if header_ok(sheet) {
-            let n = sheet::count(sheet);
-            let fault = records::decode(sheet, n, kinds, first, next);
-            if fault != 0 {
-                return fault;
-            }
-            return shape::shape(&kinds[..n], &first[..n], &next[..n]);
-        }
-        return 2;
+    if !length_ok(sheet) {
+        return Err(Refusal::Length);
     }
-    1
+    if !header_ok(sheet) {
+        return Err(Refusal::Header);
+    }
+    let n = sheet::count(sheet);
+    records::decode(sheet, n, kinds, first, next)?;
+    shape::shape(&kinds[..n], &first[..n], &next[..n])
 }
 
 // The same with tables of its own.
-pub fn accepted(sheet: &[u8]) -> u8
-    ensures { result ≡ check_of sheet.now }
+pub fn accepted(sheet: &[u8]) -> Result<(), Refusal>
+    ensures { answer_of result ≡ check_of sheet.now }
 {
     let mut kinds = [0u8; 256];
     let mut first = [0usize; 256];

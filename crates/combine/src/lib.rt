@@ -7,23 +7,11 @@ ghost use Rattle.combine.specs.Combine.{mix_of, mul_of};
 pub fn mix(xs: &[f32]) -> f32
     ensures { result ≡ mix_of xs.now }
 {
-    let mut y = 0.0f32;
-    let mut k: usize = 0;
-    while k < xs.len() {
-        y = y + xs[k];
-        k += 1;
-    }
-    y
+    xs.iter().copied().fold(0.0, |y, x| y + x)
 }
 
 pub fn mul(xs: &[f32]) -> f32
     ensures { result ≡ mul_of xs.now }
 {
-    let mut y = 1.0f32;
-    let mut k: usize = 0;
-    while k < xs.len() {
-        y = y * xs[k];
-        k += 1;
-    }
-    y
+    xs.iter().copied().fold(1.0, |y, x| y * x)
 }

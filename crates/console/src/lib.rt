@@ -1,8 +1,8 @@
-// What the programs of this repository read and print: a buffer of bytes that is filled, bytes, and numbers as text.
-// Each function takes the reader or the writer, so that a clause can name its bytes where they are known.
+// What the programs of this repository read and print beside what `Read` and `write!` do: bytes that come whole, and
+// hexadecimal text. Each function takes the reader or the writer, so that a clause can name its bytes where they are known.
 #![tactic(auto)]
 
-ghost use Rattle.std.specs.Prelude.{ℕ, OnErr, ◌<◌, ◌≤◌, take, length, codes, decimal, IfOk, OnOk, ◌++◌};
+ghost use Rattle.std.specs.Prelude.{ℕ, ◌≡◌, OnErr, ◌<◌, ◌≤◌, take, length, None, IfSome, IfOk, OnOk};
 ghost use Rattle.std.specs.Io.KnownBytes.{Appends, Consumes, IsAtEnd};
 ghost use Rattle.console.specs.Hex.{hex};
 
@@ -27,17 +27,14 @@ pub fn read_full<R: Read>(input: &mut R, buf: &mut [u8]) -> io::Result<usize>
     Ok(done)
 }
 
-pub fn say<W: Write>(output: &mut W, text: &[u8]) -> io::Result<()>
-    ensures { OnOk result (Appends (W.contents output.old) (W.contents output.new) text.now) }
+// The next `N` bytes, or `None` where the input ends before.
+pub fn next_bytes<R: Read, const N: usize>(input: &mut R) -> io::Result<Option<[u8; N]>>
+    ensures bytes { IfOk result (λ o. IfSome o (λ b. Consumes (R.remaining input.old) (R.remaining input.new) b)) }
+    ensures end { IfOk result (λ o. o ≡ None → IsAtEnd (R.remaining input.new)) }
 {
-    output.write_all(text)
-}
-
-// The digits of `n`, with no line end.
-pub fn say_decimal<W: Write>(output: &mut W, n: u64) -> io::Result<()>
-    ensures { OnOk result (Appends (W.contents output.old) (W.contents output.new) (decimal n)) }
-{
-    write!(output, "{n}")
+    let mut bytes = [0; N];
+    let whole = read_full(input, &mut bytes)? == N;
+    Ok(whole.then_some(bytes))
 }
 
 // The hexadecimal digits of `n`, in lower case, with zeros in front up to so many digits.
@@ -45,15 +42,6 @@ pub fn say_hex<W: Write>(output: &mut W, n: u64, digits: usize) -> io::Result<()
     ensures { OnOk result (Appends (W.contents output.old) (W.contents output.new) (hex digits n)) }
 {
     write!(output, "{n:0digits$x}")
-}
-
-// A line that names a number.
-pub fn say_count<W: Write>(output: &mut W, name: &[u8], n: u64) -> io::Result<()>
-    ensures { OnOk result (Appends (W.contents output.old) (W.contents output.new) (name.now ++ (decimal n ++ codes "\n"))) }
-{
-    say(output, name)?;
-    say_decimal(output, n)?;
-    say(output, b"\n")
 }
 
 #[cfg(test)]
@@ -97,9 +85,17 @@ mod tests {
     }
 
     #[test]
+    fn takes_whole_bytes(rt: HostRuntime) -> io::Result<()> {
+        let mut input: &[u8] = b"abcde";
+        assert_eq!(rt; next_bytes(&mut input)?, Some(*b"abcd"));
+        assert_eq!(rt; next_bytes::<_, 4>(&mut input)?, None);
+        Ok(())
+    }
+
+    #[test]
     fn prints_numbers(rt: HostRuntime) -> io::Result<()> {
         let mut output = Vec::new(rt.alloc());
-        say_count(&mut output, b"cases ", 1208)?;
+        writeln!(output, "cases {}", 1208)?;
         say_hex(&mut output, 0x3f000000, 8)?;
         say_hex(&mut output, 0x1f, 16)?;
         say_hex(&mut output, 0x12345, 2)?;

@@ -4,6 +4,9 @@
 ghost use Rattle.std.specs.Prelude.{◌≡◌};
 ghost use Rattle.control.specs.Moves.{fresh, glided, glide_of, pitch_moved, bend_moved, left_for};
 
+// A voice has positions from 0 to below this.
+const POSITIONS: u64 = 1 << 62;
+
 // How long the voice has sounded, in samples; the pitch's multiplier, where it glides to and by which part per sample; the bend.
 #[repr(C)]
 #[derive(Clone, Copy)]
@@ -15,15 +18,38 @@ pub struct Controls {
     pub bend: f32,
 }
 
-pub fn fresh_controls() -> Controls
-    ensures { result ≡ fresh }
-{
-    Controls {
-        position: 0,
-        pitch: 1.0,
-        target: 1.0,
-        glide: 1.0,
-        bend: 1.0,
+impl Controls {
+    // Of a voice that has not sounded yet.
+    #[tactic(auto, unfolding(crate::specs::Moves::fresh))]
+    pub fn fresh() -> Controls
+        ensures { result ≡ fresh }
+    {
+        Controls {
+            position: 0,
+            pitch: 1.0,
+            target: 1.0,
+            glide: 1.0,
+            bend: 1.0,
+        }
+    }
+
+    #[tactic(auto, unfolding(crate::specs::Moves::pitch_moved))]
+    pub fn glide_pitch(self, scale: f32, coefficient: f32) -> Controls
+        ensures { result ≡ pitch_moved self scale coefficient }
+    {
+        let target = float::max0(scale);
+        Controls {
+            target,
+            glide: glide_of(coefficient),
+            ..self
+        }
+    }
+
+    #[tactic(auto, unfolding(crate::specs::Moves::bend_moved))]
+    pub fn set_bend(self, bend: f32) -> Controls
+        ensures { result ≡ bend_moved self bend }
+    {
+        Controls { bend, ..self }
     }
 }
 
@@ -35,47 +61,19 @@ pub fn glide_step(pitch: f32, target: f32, glide: f32) -> f32
 }
 
 // A NaN would stay in the pitch for good, so it counts as no glide.
+#[tactic(auto, unfolding(crate::specs::Moves::glide_of))]
 fn glide_of(coefficient: f32) -> f32
     ensures { result ≡ glide_of coefficient }
 {
-    if float::is_nan(coefficient) {
+    if coefficient.is_nan() {
         return 1.0;
     }
     float::clamp(coefficient, 1.17549435e-38, 1.0)
 }
 
-pub fn glide_pitch(c: Controls, scale: f32, coefficient: f32) -> Controls
-    ensures { result ≡ pitch_moved c scale coefficient }
-{
-    let target = float::max0(scale);
-    let glide = glide_of(coefficient);
-    Controls {
-        position: c.position,
-        pitch: c.pitch,
-        target,
-        glide,
-        bend: c.bend,
-    }
-}
-
-pub fn set_bend(c: Controls, bend: f32) -> Controls
-    ensures { result ≡ bend_moved c bend }
-{
-    Controls {
-        position: c.position,
-        pitch: c.pitch,
-        target: c.target,
-        glide: c.glide,
-        bend,
-    }
-}
-
-// Check 10 does not apply: position plus length is at most 2^62. The sum may not fit a word, the difference does.
+// Whether a fill of this length has positions left. The sum may not fit a word, the difference does.
 pub fn positions_left(position: u64, length: u64) -> bool
     ensures { result ≡ left_for position length }
 {
-    if length > 4611686018427387904 {
-        return false;
-    }
-    position <= 4611686018427387904 - length
+    length <= POSITIONS && position <= POSITIONS - length
 }

@@ -1,4 +1,4 @@
--- What `tanh_above` cites: 2 x lies where `exp_above` serves, for an x that is neither above 20 nor below 0.25. Assumes nothing.
+-- What `tanh_above` cites: 2 x lies where `exp_above` serves, for an x that is neither above 20 nor below 0.25.
 use mathlib.Core.Path.{◌≡◌, refl, sym, subst}
 use mathlib.Core.Bool.{false, not}
 use lib.IntN.{pos, negsuc}

@@ -1,4 +1,4 @@
--- The exponent and the mantissa of a normal double from its bit pattern: what the proofs of `ln`'s parts cite. Assumes nothing.
+-- The exponent and the mantissa of a normal double from its bit pattern: what the proofs of `ln`'s parts cite.
 use mathlib.Core.Path.{◌≡◌, refl, sym, ap, ◌∙◌, subst}
 use mathlib.Core.Logic.{◌⊎◌, inl, inr}
 use mathlib.Core.Bool.{Bool, true, false, not, ◌&&◌, true≢false}

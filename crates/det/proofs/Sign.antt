@@ -1,4 +1,4 @@
--- What `tanh` cites: its size and its sign tell what tanh of a double is. Assumes nothing.
+-- What `tanh` cites: its size and its sign tell what tanh of a double is.
 use mathlib.Core.Path.{◌≡◌, refl, sym, ap, ◌∙◌, subst}
 use mathlib.Core.Logic.{◌⊎◌, inl, inr}
 use mathlib.Core.Bool.{Bool, true, false, not, cond, true≢false}

@@ -1,4 +1,4 @@
--- The base 10: its logarithm as the definition computes it, and what `pow_of` asks of it. Assumes nothing.
+-- The base 10: its logarithm as the definition computes it, and what `pow_of` asks of it.
 use mathlib.Core.Path.{◌≡◌, refl}
 use mathlib.Core.Bool.{false}
 use lib.Ieee.{binary64, of_bits, of_int, neg, add, sub, mul, div, lt, eq, is_nan, round, size}

@@ -65,9 +65,10 @@ fn ln_folded(m: f64, k: i32, scale: f64) -> f64
     ensures { result ≡ ln_folded m k scale }
 {
     if m > SQRT_2 {
-        return ln_series(m * 0.5, ((k + 1) as f64) + scale);
+        ln_series(m * 0.5, ((k + 1) as f64) + scale)
+    } else {
+        ln_series(m, (k as f64) + scale)
     }
-    ln_series(m, (k as f64) + scale)
 }
 
 // ln of x with the scale added to its exponent.
@@ -88,19 +89,15 @@ const SCALE_K: f64 = -64.0;
 pub fn ln(x: f64) -> f64
     ensures { result ≡ ln_of x }
 {
-    if x != x {
-        return 0.0 / 0.0;
+    if x.is_nan() || x < 0.0 {
+        0.0 / 0.0
+    } else if x == 0.0 {
+        -1.0 / 0.0
+    } else if x < MIN_POSITIVE {
+        ln_normal(x * SUBNORMAL_SCALE, SCALE_K)
+    } else {
+        ln_normal(x, 0.0)
     }
-    if x < 0.0 {
-        return 0.0 / 0.0;
-    }
-    if x == 0.0 {
-        return -1.0 / 0.0;
-    }
-    if x < MIN_POSITIVE {
-        return ln_normal(x * SUBNORMAL_SCALE, SCALE_K);
-    }
-    ln_normal(x, 0.0)
 }
 
 // x to the power y by l, the logarithm of x: a caller with one base and many exponents works it out once. The bases 0 and
@@ -110,15 +107,14 @@ pub fn powf_by(x: f64, l: f64, y: f64) -> f64
     ensures { result ≡ pow_of x y }
 {
     if y == 0.0 {
-        return 1.0;
+        1.0
+    } else if x == 0.0 {
+        if y > 0.0 { 0.0 } else { 1.0 / 0.0 }
+    } else if x < 0.0 {
+        0.0 / 0.0
+    } else {
+        exp::exp(y * l)
     }
-    if x == 0.0 {
-        return if y > 0.0 { 0.0 } else { 1.0 / 0.0 };
-    }
-    if x < 0.0 {
-        return 0.0 / 0.0;
-    }
-    exp::exp(y * l)
 }
 
 pub fn powf(x: f64, y: f64) -> f64
@@ -134,10 +130,7 @@ const LN_10: f64 = 2.302585092994046;
 pub fn pow10(y: f64) -> f64
     ensures { result ≡ pow_of ten y }
 {
-    if y == 0.0 {
-        return 1.0;
-    }
-    exp::exp(y * LN_10)
+    if y == 0.0 { 1.0 } else { exp::exp(y * LN_10) }
 }
 
 pub fn log10(x: f64) -> f64
@@ -154,20 +147,20 @@ fn tanh_above(x: f64, sign: f64) -> f64
     ensures { result ≡ tanh_above x sign }
 {
     if x > 20.0 {
-        return sign;
-    }
-    if x < 0.25 {
+        sign
+    } else if x < 0.25 {
         let e = exp::expm1_small(2.0 * x);
-        return sign * (e / (e + 2.0));
+        sign * (e / (e + 2.0))
+    } else {
+        sign * (1.0 - 2.0 / (exp::exp_above(2.0 * x) + 1.0))
     }
-    sign * (1.0 - 2.0 / (exp::exp_above(2.0 * x) + 1.0))
 }
 
 // The size and the sign are taken from the pattern: a branch on the sign misses half the time on noise.
 pub fn tanh(x: f64) -> f64
     ensures { result ≡ tanh_of x }
 {
-    if x != x {
+    if x.is_nan() {
         return 0.0 / 0.0;
     }
     let bits: u64 = f64::to_bits(x);
@@ -183,7 +176,7 @@ pub fn tanh(x: f64) -> f64
 pub fn lnf(x: f32) -> f32
     ensures { result ≡ narrow_of (ln_of x) }
 {
-    cast::f64_to_f32(ln(cast::f32_to_f64(x)))
+    cast::narrowed(ln, x)
 }
 
 pub fn powff(x: f32, y: f32) -> f32
@@ -202,17 +195,17 @@ pub fn powff_by(x: f32, l: f64, y: f32) -> f32
 pub fn pow10f(y: f32) -> f32
     ensures { result ≡ narrow_of (pow_of ten y) }
 {
-    cast::f64_to_f32(pow10(cast::f32_to_f64(y)))
+    cast::narrowed(pow10, y)
 }
 
 pub fn tanhf(x: f32) -> f32
     ensures { result ≡ narrow_of (tanh_of x) }
 {
-    cast::f64_to_f32(tanh(cast::f32_to_f64(x)))
+    cast::narrowed(tanh, x)
 }
 
 pub fn log10f(x: f32) -> f32
     ensures { result ≡ narrow_of (log10_of x) }
 {
-    cast::f64_to_f32(log10(cast::f32_to_f64(x)))
+    cast::narrowed(log10, x)
 }

@@ -1,8 +1,9 @@
 // The kernels by their place in the answer file. A word of a case holds a float's bits.
-ghost use Rattle.std.specs.Prelude.{◌^◌, ◌<◌};
+use vectors::Operands;
 
 pub const KERNELS: u8 = 19;
 
+// A place is the number of the section in the file: an enum of the kernels would name each twice.
 fn kernel(place: u8, x: f64, y: f64) -> f64 {
     match place {
         0 => trig::sin(x),
@@ -37,15 +38,13 @@ fn single(bits: u64) -> f32 {
     float::from_bits((bits % 4294967296) as u32)
 }
 
-pub fn answer(place: u8, x: [u64; 20]) -> u64
-    ensures { result < 2 ^ 64 }
-{
+pub fn answer(place: u8, x: Operands) -> u64 {
     if place < 12 {
-        return float::to_bits_f64(kernel(
+        return std::num::f64_to_bits_with_nan(kernel(
             place,
-            float::from_bits_f64(x[0]),
-            float::from_bits_f64(x[1]),
+            std::num::f64_from_bits_with_nan(x[0]),
+            std::num::f64_from_bits_with_nan(x[1]),
         ));
     }
-    float::to_bits(wrapper(place, single(x[0]), single(x[1]))) as u64
+    u64::from(float::to_bits(wrapper(place, single(x[0]), single(x[1]))))
 }

@@ -1,4 +1,4 @@
--- A whole float below 2 ^ 52 in size: the lossless cast to `i64` takes it, once -0 is made +0 by adding 0. And `round_of` gives whole floats. Assumes nothing.
+-- A whole float below 2 ^ 52 in size: the lossless cast to `i64` takes it, once -0 is made +0 by adding 0. And `round_of` gives whole floats.
 use mathlib.Core.Path.{◌≡◌, refl, sym, ap, ◌∙◌, subst}
 use mathlib.Core.Bool.{Bool, true, false, not, ◌&&◌}
 use Prim.Native.Nat.{ℕ, zero, suc, ◌+◌, ◌-◌, ◌*◌, ◌/◌, ◌%◌, ◌^◌, ◌≤◌, ◌<◌}

@@ -1,5 +1,5 @@
--- Small things that the proofs share: the constants by their quotients, the test of a NaN, the order that two tests leave, a difference of two numbers, a signed integer out of a cast as a caller reads it. Assumes nothing.
-use mathlib.Core.Path.{◌≡◌, refl, sym, ap, ◌∙◌, subst}
+-- Small things that the proofs share: the constants by their quotients, the order that two tests leave, a difference of two numbers, a signed integer out of a cast as a caller reads it.
+use mathlib.Core.Path.{◌≡◌, refl, sym, ◌∙◌, subst}
 use mathlib.Core.Bool.{true, false, true≢false}
 use Prim.Native.Nat.{ℕ, suc, ◌+◌, ◌-◌, ◌*◌, ◌≤◌, ◌<◌}
 use native.Mathlib.Nat.{mul-pos}
@@ -7,7 +7,7 @@ use native.Mathlib.Omega.{arith}
 use lib.IntN.{ℤ, pos, negsuc, sub_ℕ}
 use lib.Dec.{T, ltb, lt→ltb, ltb→lt, nltb→le}
 use lib.Arith.{le→nltb}
-use lib.Ieee.{Float, nan, inf, fin, binary64, up, down, div, neg, lt, le, eq, ne, is_nan, of_bits, to_signed}
+use lib.Ieee.{Float, nan, inf, fin, binary64, up, down, div, neg, lt, le, is_nan, of_bits, to_signed}
 use lib.Ieee.Casts.{to_signed_in}
 use lib.Ieee.Fits.{up_pos, down_pos}
 use lib.Ieee.Order.{le_of_values}
@@ -15,9 +15,7 @@ use lib.Ieee.Positive.{positive, above}
 use mir.Syntax.{w64}
 use mir.Val.{SFits, of_z, to_z}
 use mir.ValLaws.{to_z-of_z}
-use borrow.Author.Tests.{not-false}
-use Rattle.ieee.proofs.Tests.{yes, no, is_false, cond_yes, cond_no}
-use Rattle.ieee.proofs.Read.{no_self, self-number}
+use Rattle.ieee.proofs.Tests.{no, cond_yes, cond_no}
 
 pub one-by-zero : div binary64 (of_bits binary64 0x3ff0_0000_0000_0000) (of_bits binary64 0) ≡ inf false
 unfolding div of_bits
@@ -26,14 +24,6 @@ one-by-zero = refl
 pub minus-one-by-zero : div binary64 (neg (of_bits binary64 0x3ff0_0000_0000_0000)) (of_bits binary64 0) ≡ inf true
 unfolding div neg of_bits
 minus-one-by-zero = refl
-
-pub is-nan : (x : Float) → ne x x ≡ true → is_nan x ≡ true
-unfolding ne is_nan
-is-nan x h = ap is_nan (no_self x (yes h))
-
-pub is_number : (x : Float) → ne x x ≡ false → is_nan x ≡ false
-unfolding ne
-is_number x h = is_false (is_nan x) (self-number x (yes (not-false (eq x x) h)))
 
 -- what is not below a positive l, and what is above 0 and not above h
 pub le-of-not-below : (l x : Float) → T (positive l) → is_nan x ≡ false → lt x l ≡ false → T (le l x)

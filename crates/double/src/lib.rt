@@ -12,12 +12,11 @@ pub fn whole_to_i64(w: f64) -> i64
     requires { num w % den w ≡ 0 }
     ensures { result ≡ Ieee.to_signed 63 w }
 {
-    if w < 4503599627370496.0 {
-        if w > -4503599627370496.0 {
-            return (w + 0.0) as i64;
-        }
+    if w < 4503599627370496.0 && w > -4503599627370496.0 {
+        (w + 0.0) as i64
+    } else {
+        cast::f64_to_i64(w)
     }
-    cast::f64_to_i64(w)
 }
 
 // The same as a float, `w as i64 as f64`.
@@ -25,10 +24,9 @@ pub fn whole_by_i64(w: f64) -> f64
     requires { num w % den w ≡ 0 }
     ensures { result ≡ Ieee.of_int binary64 (Ieee.to_signed 63 w) }
 {
-    if w < 4503599627370496.0 {
-        if w > -4503599627370496.0 {
-            return w + 0.0;
-        }
+    if w < 4503599627370496.0 && w > -4503599627370496.0 {
+        w + 0.0
+    } else {
+        cast::i64_to_f64(cast::f64_to_i64(w))
     }
-    cast::i64_to_f64(cast::f64_to_i64(w))
 }

@@ -1,9 +1,7 @@
 -- Folds counted: what is left of a folding with n folds made, and one fold more.
-use mathlib.Core.Path.{◌≡◌, refl, sym, ap, ◌∙◌}
-use mathlib.Core.Bool.{Bool, true, false, cond}
-use Prim.Native.Nat.{ℕ, suc, ◌+◌, ◌≤◌, ◌-◌}
-use lib.Ieee.{Float, lt}
-use native.Mathlib.Omega.{arith}
+use Rattle.std.proofs.Common.{◌≡◌, refl, sym, ap, ◌∙◌, Bool, true, false, cond, ℕ, suc, ◌+◌, ◌≤◌, ◌-◌, arith}
+use Rattle.std.specs.Prelude.{Float}
+use Rattle.std.specs.Float.Ieee.{lt}
 use Rattle.float.specs.Order.{is_finite, clamp_of}
 use Rattle.float.specs.Single.{◌⊖◌, zero, one, two}
 use Rattle.drive.specs.Drive.{minus_one, minus_two, fold_by, fold_of}

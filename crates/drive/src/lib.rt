@@ -18,18 +18,14 @@ fn fold_on(x: f32) -> f32
     ensures { result ≡ fold_of x }
 {
     let mut y = x;
-    let mut folds: u32 = 0;
-    while folds <= 1024 {
+    for _folds in 0..1025u32 {
         if y > 1.0 {
             y = 2.0 - y;
+        } else if y < -1.0 {
+            y = -2.0 - y;
         } else {
-            if y < -1.0 {
-                y = -2.0 - y;
-            } else {
-                return y;
-            }
+            return y;
         }
-        folds += 1;
     }
     float::clamp(y, -1.0, 1.0)
 }
@@ -55,16 +51,14 @@ fn fold(x: f32) -> f32
         return 0.0;
     }
     let z = reflected(x);
-    if z > 1.0 {
-        return fold_on(x);
-    }
-    if z < -1.0 {
+    if z > 1.0 || z < -1.0 {
         return fold_on(x);
     }
     z
 }
 
 // The waveshaper's curve at one sample.
+#[tactic(auto, unfolding(crate::specs::Drive::drive_of))]
 pub fn drive_curve(x: f32, shape: DriveShape) -> f32
     ensures { result ≡ drive_of shape x }
 {
@@ -90,6 +84,7 @@ pub fn ln_cosh(x: f32, d: f32) -> f32
 }
 
 // The curve's antiderivative F, which anti-aliasing uses as F(x1) - F(x0).
+#[tactic(auto, unfolding(crate::specs::Drive::antiderivative_of))]
 pub fn drive_antideriv(x: f32, shape: DriveShape) -> f32
     ensures { result ≡ antiderivative_of shape x }
 {

@@ -7,7 +7,6 @@ use Rattle.float.specs.Single.{◌⊕◌, ◌⊖◌, ◌⊗◌, ◌⊘◌, zero,
 use Rattle.drive.specs.Drive.{drive_of, antiderivative_of}
 use Rattle.dsl.specs.declared.DriveShape.{DriveShape}
 use Rattle.drive_step.specs.declared.Drive.{Drive}
-use Rattle.drive_step.specs.declared.DriveOut.{DriveOut}
 
 abbrev pub driven : Float → Float → Float
 driven amount x = max_of amount zero ⊗ x
@@ -17,17 +16,15 @@ average_of shape xn f xPrev fPrev =
     let d = xn ⊖ xPrev in
     cond (lt (of_bits binary32 0x3727_c5ac) (abs_of d)) ((f ⊖ fPrev) ⊘ d) (drive_of shape (half ⊗ (xn ⊕ xPrev)))
 
--- past the DC blocker: y is the average
-abbrev pub blocked : Float → Float → Float → Drive → DriveOut
-blocked y xn f s =
-    let yb = y ⊖ s.dc_x ⊕ of_bits binary32 0x3f7f_df3b ⊗ s.dc_y in
-    record { out = yb; drive = record { x_prev = xn; f_prev = f; dc_x = y; dc_y = yb } }
+-- past the DC blocker: y is the average. The sample, and the state then
+abbrev pub blocked : Float → Float → Float → Drive → Float × Drive
+blocked y xn f s = let yb = y ⊖ s.dc_x ⊕ of_bits binary32 0x3f7f_df3b ⊗ s.dc_y in (yb, record { x_prev = xn; f_prev = f; dc_x = y; dc_y = yb })
 
 -- from the amplified sample and its antiderivative
-unfoldable pub drive_by : DriveShape → Float → Float → Drive → DriveOut
+unfoldable pub drive_by : DriveShape → Float → Float → Drive → Float × Drive
 drive_by shape xn f s = blocked (average_of shape xn f s.x_prev s.f_prev) xn f s
 
-unfoldable pub drive_step : DriveShape → Float → Drive → Float → DriveOut
+unfoldable pub drive_step : DriveShape → Float → Drive → Float → Float × Drive
 drive_step shape amount s x = let xn = driven amount x in drive_by shape xn (antiderivative_of shape xn) s
 
 unfoldable pub drive_plain : DriveShape → Float → Float → Float

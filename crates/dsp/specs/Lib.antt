@@ -2,3 +2,4 @@ pub mod Math
 pub mod Map
 pub mod Coefficients
 pub mod Cases
+pub mod Zero

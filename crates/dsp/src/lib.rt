@@ -19,10 +19,8 @@ pub fn sin(x: f32) -> f32
 pub fn sin_block(xs: &mut [f32])
     ensures { xs.new ≡ map sine xs.old }
 {
-    let mut k: usize = 0;
-    while k < xs.len() {
-        xs[k] = sin(xs[k]);
-        k += 1;
+    for x in xs.iter_mut() {
+        *x = sin(*x);
     }
 }
 
@@ -86,6 +84,7 @@ pub fn log10(x: f32) -> f32
 // ---- coefficients
 
 // What a decay with the time constant secs keeps in one sample.
+#[tactic(auto, unfolding(crate::specs::Coefficients::one_pole_of))]
 pub fn one_pole(secs: f32, sr: f32) -> f32
     ensures { result ≡ one_pole_of secs sr }
 {
@@ -99,6 +98,7 @@ pub struct Follower {
 }
 
 // Both times are at least 0.1 ms, so that a zero never divides.
+#[tactic(auto, unfolding(crate::specs::Coefficients::follower_of))]
 pub fn follower_coeffs(attack: f32, release: f32, sr: f32) -> Follower
     ensures { result ≡ record { at = follower_of attack sr; rt = follower_of release sr } }
 {
@@ -138,6 +138,7 @@ pub fn modal_coeffs(freq: f32, decay: f32, gain: f32, sr: u32) -> Resonator
 }
 
 // Freeverb's room size as the combs' feedback.
+#[tactic(auto, unfolding(crate::specs::Coefficients::feedback_of))]
 pub fn freeverb_feedback(room: f32) -> f32
     ensures { result ≡ feedback_of room }
 {

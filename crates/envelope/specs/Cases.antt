@@ -7,7 +7,7 @@ use Rattle.envelope.specs.Envelope.{level, adsr_of}
 
 -- with a = 0.01, d = 0.1, s = 0.6, r = 0.2 and the release from 0.5 on, at the time t and with the punch given
 abbrev at : Float → Float → Float
-at t punch = adsr_of t (of_bits binary32 0x3c23_d70a) (of_bits binary32 0x3dcc_cccd) (of_bits binary32 0x3f19_999a) (of_bits binary32 0x3e4c_cccd) punch (of_bits binary32 0x3f00_0000)
+at t punch = adsr_of (record { a = of_bits binary32 0x3c23_d70a; d = of_bits binary32 0x3dcc_cccd; s = of_bits binary32 0x3f19_999a; r = of_bits binary32 0x3e4c_cccd; punch = punch }) t (of_bits binary32 0x3f00_0000)
 
 -- 0.003 without a punch and with 0.5; 0.05; 0.3; 0.55; 0.8
 adsr-1 : at (of_bits binary32 0x3b44_9ba6) (of_bits binary32 0) ≡ of_bits binary32 0x3e99_999a

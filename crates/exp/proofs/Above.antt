@@ -1,4 +1,4 @@
--- What `exp_above` and `exp_minus` cite: with 2 ^ 52 added, a y between 0 and 512 is rounded to a whole number, k, and the sum's last digits are k. Assumes nothing.
+-- What `exp_above` and `exp_minus` cite: with 2 ^ 52 added, a y between 0 and 512 is rounded to a whole number, k, and the sum's last digits are k.
 use mathlib.Core.Path.{◌≡◌, refl, sym, ap, ◌∙◌, subst}
 use mathlib.Core.Logic.{inr}
 use mathlib.Core.Bool.{Bool, true, false, not}

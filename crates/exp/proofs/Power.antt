@@ -1,20 +1,20 @@
--- 2 ^ k from its bit pattern: what the proof of `ldexp2` cites. i = k + 1074 counts from the smallest double, 2 ^ -1074. Assumes nothing.
+-- 2 ^ k from its bit pattern: what the proof of `ldexp2` cites. i = k + 1074 counts from the smallest double, 2 ^ -1074.
 use mathlib.Core.Path.{◌≡◌, refl, sym, ap, ◌∙◌, subst}
 use mathlib.Core.Logic.{inl, inr}
 use mathlib.Core.Bool.{Bool, true, false, not, cond, true≢false}
 use Prim.Native.Nat.{ℕ, suc, ◌+◌, ◌-◌, ◌*◌, ◌%◌, ◌^◌, ◌≤◌, ◌<◌}
-use native.Mathlib.Nat.{le_refl, lt_of_le_of_lt, lt_of_lt_of_le, one-mul, mul-one, zero-add, mod-eq_of_lt}
+use native.Mathlib.Nat.{le_refl, lt_of_le_of_lt, one-mul, mul-one, zero-add, mod-eq_of_lt}
 use native.Mathlib.Omega.{arith}
 use lib.IntN.{ℤ, pos, negsuc, nat_abs, ◌+ℤ◌}
 use lib.Dec.{T, ltb, leb, lit≤, le→leb, ltb→lt, nltb→le}
 use lib.Arith.{lt→nleb, le→nltb}
 use lib.Pow.{pow_pos, pow_mono, pow-lt}
-use lib.Signed.{lt_z, non_neg}
+use lib.Signed.{lt_z}
 use lib.Count.{count_trailing_zeros}
-use lib.Ieee.{inf, fin, binary64, minus, odd, units, fits, of_bits, nan_bits}
+use lib.Ieee.{inf, fin, binary64, minus, odd, units, of_bits, nan_bits}
 use lib.Ieee.Exact.{HasValue, units_val}
 use mir.Syntax.{w64}
-use mir.Val.{Fits, SFits, of_z, to_z}
+use mir.Val.{SFits, of_z, to_z}
 use mir.ValLaws.{to_z-of_z}
 use borrow.Author.Tests.{le-ltb}
 use Rattle.ieee.proofs.Tests.{null, yes, no, cond_yes, cond_no}
@@ -219,12 +219,6 @@ module _ (k : ℤ) (h : SFits w64 k) (d most : ℕ) (bits : ℕ → ℕ) (w : Wr
 
   pub sum-read : to_z w64 (of_z w64 (to_z w64 (of_z w64 k) +ℤ pos d)) ≡ pos w.at
   sum-read = to_z-of_z w64 (to_z w64 (of_z w64 k) +ℤ pos d) sum_fits ∙ sum_is
-
-  pub sum-unsigned : let z = to_z w64 (of_z w64 (to_z w64 (of_z w64 k) +ℤ pos d)) in T (non_neg z) × Fits w64 (nat_abs z)
-  sum-unsigned = subst (λ (z : ℤ). T (non_neg z) × Fits w64 (nat_abs z)) (sym sum-read) (tt, record { fits = lt_of_lt_of_le inside (lit≤ tt) })
-
-  pub sum-small : nat_abs (to_z w64 (of_z w64 (to_z w64 (of_z w64 k) +ℤ pos d))) ≤ most
-  sum-small = subst (λ (z : ℤ). nat_abs z ≤ most) (sym sum-read) w.small
 
   pub sum_number : T (not (nan_bits binary64 (bits (nat_abs (to_z w64 (of_z w64 (to_z w64 (of_z w64 k) +ℤ pos d)))))))
   sum_number = subst (λ (z : ℤ). T (not (nan_bits binary64 (bits (nat_abs z))))) (sym sum-read) w.number

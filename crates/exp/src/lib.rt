@@ -19,15 +19,16 @@ pub fn ldexp2(k: i64) -> f64
     ensures { result ≡ power_of_two k }
 {
     if k > 1023 {
-        return 1.0 / 0.0;
-    }
-    if k < -1022 {
+        1.0 / 0.0
+    } else if k < -1022 {
         if k < -1074 {
-            return 0.0;
+            0.0
+        } else {
+            f64::from_bits(1u64 << ((k + 1074) as u64))
         }
-        return f64::from_bits(1u64 << ((k + 1074) as u64));
+    } else {
+        f64::from_bits(((k + 1023) as u64) << 52)
     }
-    f64::from_bits(((k + 1023) as u64) << 52)
 }
 
 const P1: f64 = 1.66666666666666019037e-01;
@@ -71,8 +72,8 @@ fn exp_plain(x: f64) -> f64
 // For x from 2^-30 to 256. Adding 2^52 rounds x / ln 2 to a whole number, k, which the sum then has as its last digits: with
 // 1023 added, and what is above them shifted out, they are 2^k. A half that went down to an even k has to go up: the plain form.
 pub fn exp_above(x: f64) -> f64
-    requires fact_1 { T (Ieee.le (fin false 1 (negsuc 29)) x) }
-    requires fact_2 { T (Ieee.le x (fin false 1 (pos 8))) }
+    requires least { T (Ieee.le (fin false 1 (negsuc 29)) x) }
+    requires most { T (Ieee.le x (fin false 1 (pos 8))) }
     ensures { result ≡ exp_of x }
 {
     let y = x * INV_LN2;
@@ -87,8 +88,8 @@ pub fn exp_above(x: f64) -> f64
 
 // e^-x likewise, with 2^-k.
 fn exp_minus(x: f64) -> f64
-    requires fact_1 { T (Ieee.le (fin false 1 (negsuc 29)) x) }
-    requires fact_2 { T (Ieee.le x (fin false 1 (pos 8))) }
+    requires least { T (Ieee.le (fin false 1 (negsuc 29)) x) }
+    requires most { T (Ieee.le x (fin false 1 (pos 8))) }
     ensures { result ≡ exp_of (Ieee.neg x) }
 {
     let y = x * INV_LN2;
@@ -109,16 +110,12 @@ const EXP_FAR: f64 = 256.0;
 pub fn exp(x: f64) -> f64
     ensures { result ≡ exp_of x }
 {
-    if x >= EXP_NEAR {
-        if x <= EXP_FAR {
-            return exp_above(x);
-        }
+    if x >= EXP_NEAR && x <= EXP_FAR {
+        return exp_above(x);
     }
     let m = -x;
-    if m >= EXP_NEAR {
-        if m <= EXP_FAR {
-            return exp_minus(m);
-        }
+    if m >= EXP_NEAR && m <= EXP_FAR {
+        return exp_minus(m);
     }
     exp_plain(x)
 }
@@ -157,5 +154,5 @@ pub fn expm1_small(x: f64) -> f64
 pub fn expf(x: f32) -> f32
     ensures { result ≡ narrow_of (exp_of x) }
 {
-    cast::f64_to_f32(exp(cast::f32_to_f64(x)))
+    cast::narrowed(exp, x)
 }

@@ -1,7 +1,7 @@
 // Checks 3 and 4 of one record.
 #![tactic(auto)]
 
-ghost use Rattle.std.specs.Prelude.{◌≡◌, ◌+◌, ◌-◌, ◌*◌, ◌≤◌, min, eqb, length};
+ghost use Rattle.std.specs.Prelude.{◌≡◌, ◌+◌, ◌-◌, ◌*◌, ◌≤◌, eqb, length};
 ghost use Rattle.sheet.specs.Bytes.{byte_at, u64_at};
 ghost use Rattle.sheet.specs.Checks.{all, record_ok, link_ok};
 ghost use Rattle.sheet.specs.Codes.{options_table, numbers_table};
@@ -15,13 +15,6 @@ fn pair(r: &[u8], k: usize) -> u64
     sheet::double(r, 8 + 4 * k)
 }
 
-// The last place with a number after it, where k is past that.
-fn within(k: usize) -> usize
-    ensures { result ≡ min k 6 }
-{
-    if k < 6 { k } else { 6 }
-}
-
 // Whether the numbers from m on are zero, two at a time: words that overlap cost less than a branch on how many there are.
 // Joined by |, and not compared one by one, each is one load.
 fn unset(r: &[u8], m: u8) -> bool
@@ -32,7 +25,7 @@ fn unset(r: &[u8], m: u8) -> bool
         return sheet::bits(r, 7) == 0;
     }
     let k = m as usize;
-    (pair(r, k) | pair(r, within(k + 2)) | pair(r, within(k + 4)) | pair(r, 6)) == 0
+    (pair(r, k) | pair(r, (k + 2).min(6)) | pair(r, (k + 4).min(6)) | pair(r, 6)) == 0
 }
 
 // 3, of one record. The test of the kind serves both tables.

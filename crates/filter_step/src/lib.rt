@@ -1,8 +1,10 @@
-// The filter for one sample: values in, a struct of the sample and the new state out.
+// The filter for one sample.
 #![tactic(auto)]
 
 ghost use Rattle.std.specs.Prelude.{◌≡◌};
 ghost use Rattle.filter_step.specs.Filter.{tuned, biquad_step, filter_of};
+
+use biquad::Response;
 
 // A filter's eleven cells, in the sheet's order.
 #[derive(Clone, Copy)]
@@ -20,67 +22,49 @@ pub struct Filter {
     pub y2: f32,
 }
 
-#[derive(Clone, Copy)]
-pub struct FilterOut {
-    pub out: f32,
-    pub filter: Filter,
-}
+impl Filter {
+    // The coefficients are worked out anew exactly where the cutoff moved; a NaN always counts as moved.
+    #[tactic(auto, unfolding(crate::specs::Filter::tuned))]
+    pub fn tune(&mut self, r: Response, f: f32)
+        ensures { self.new ≡ tuned r f self.old }
+    {
+        if f != self.prev_f {
+            let k = biquad::biquad_coeffs(r, f);
+            *self = Filter {
+                prev_f: f,
+                b0: k.b0,
+                b1: k.b1,
+                b2: k.b2,
+                a1: k.a1,
+                a2: k.a2,
+                ..*self
+            };
+        }
+    }
 
-// The coefficients are worked out anew exactly where the cutoff moved; a NaN always counts as moved.
-pub fn tune(kind: biquad::FilterKind, q: f32, sr: u32, f: f32, s: Filter) -> Filter
-    ensures { result ≡ tuned kind q sr f s }
-{
-    if f != s.prev_f {
-        let k = biquad::biquad_coeffs(kind, f, q, sr);
-        return Filter {
-            scale: s.scale,
-            prev_f: f,
-            b0: k.b0,
-            b1: k.b1,
-            b2: k.b2,
-            a1: k.a1,
-            a2: k.a2,
-            x1: s.x1,
-            x2: s.x2,
-            y1: s.y1,
-            y2: s.y2,
+    // Direct form I.
+    #[tactic(auto, unfolding(crate::specs::Filter::biquad_step))]
+    pub fn biquad(&mut self, x: f32) -> f32
+        ensures { (result, self.new) ≡ biquad_step self.old x }
+    {
+        let s = *self;
+        let y = s.b0 * x + s.b1 * s.x1 + s.b2 * s.x2 - s.a1 * s.y1 - s.a2 * s.y2;
+        *self = Filter {
+            x1: x,
+            x2: s.x1,
+            y1: y,
+            y2: s.y1,
+            ..s
         };
+        y
     }
-    s
-}
 
-pub fn biquad(s: Filter, x: f32) -> FilterOut
-    ensures { result ≡ biquad_step s x }
-{
-    let y = s.b0 * x + s.b1 * s.x1 + s.b2 * s.x2 - s.a1 * s.y1 - s.a2 * s.y2;
-    let next = Filter {
-        scale: s.scale,
-        prev_f: s.prev_f,
-        b0: s.b0,
-        b1: s.b1,
-        b2: s.b2,
-        a1: s.a1,
-        a2: s.a2,
-        x1: x,
-        x2: s.x1,
-        y1: y,
-        y2: s.y1,
-    };
-    FilterOut {
-        out: y,
-        filter: next,
+    // The sample through the filter at a cutoff.
+    #[tactic(auto, unfolding(crate::specs::Filter::filter_of))]
+    pub fn step(&mut self, r: Response, cutoff: f32, x: f32) -> f32
+        ensures { (result, self.new) ≡ filter_of r cutoff self.old x }
+    {
+        self.tune(r, cutoff * self.scale);
+        self.biquad(x)
     }
-}
-
-pub fn filter_step(
-    kind: biquad::FilterKind,
-    q: f32,
-    sr: u32,
-    cutoff: f32,
-    s: Filter,
-    x: f32,
-) -> FilterOut
-    ensures { result ≡ filter_of kind q sr cutoff s x }
-{
-    biquad(tune(kind, q, sr, cutoff * s.scale, s), x)
 }

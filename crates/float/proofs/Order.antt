@@ -1,75 +1,27 @@
--- Laws of size and order: NaN tests, absolute value, the larger and the smaller of two. Assumes nothing.
+-- Laws of size and order: NaN tests, absolute value, the larger and the smaller of two.
 use mathlib.Core.Path.{◌≡◌, refl, sym, ap, ◌∙◌, subst}
 use mathlib.Core.Logic.{◌⊎◌, inl, inr}
-use mathlib.Core.Bool.{Bool, true, false, not, ◌&&◌, ◌||◌, cond, beq, true≢false}
-use Prim.Native.Nat.{ℕ, zero, suc, ◌+◌, ◌-◌, ◌*◌, ◌/◌, ◌^◌, ◌≤◌, ◌<◌}
-use native.Mathlib.Nat.{le_of_eq, le_antisymm, mul-one, one-mul, zero-mul, mul-pos, zero-lt-suc}
+use mathlib.Core.Bool.{Bool, true, false, not, ◌||◌, cond, beq, true≢false}
+use Prim.Native.Nat.{ℕ, zero, suc, ◌+◌, ◌*◌, ◌≤◌, ◌<◌}
+use native.Mathlib.Nat.{le_of_eq, le_antisymm, one-mul, mul-pos, zero-lt-suc}
 use native.Mathlib.Omega.{arith}
-use lib.IntN.{ℤ, pos, negsuc}
-use lib.Dec.{T, ltb, eqb, ltb→lt, lt→ltb, nltb→le, eqb→eq, eqb_refl, T_not}
+use lib.IntN.{ℤ, pos}
+use lib.Dec.{T, ltb, eqb, ltb→lt, nltb→le, eqb→eq, T_not}
 use lib.Arith.{le→nltb}
 use lib.Ieee.{Float, nan, inf, fin, Format, binary32, prec, emax, low, up, down, fits, is_nan, neg, lt, eq, ne, le, round, units, odd, sum, add, sub, ones, hid, nan_bits, of_bits, to_bits}
 use lib.Ieee.Fits.{up_pos, down_pos, and_i, and_l, and_r, round_is}
-use lib.Ieee.Bits.{nan_bits_is}
-use lib.Ieee.Exact.{HasValue, odd_sign}
-use Rattle.ieee.proofs.Tests.{null, yes, no, is_true, is_false, cond_yes, cond_no}
+use Rattle.ieee.proofs.Tests.{null, yes, no, is_true, is_false}
 use Rattle.ieee.proofs.Value.{round-self, same-value}
-use Rattle.ieee.proofs.Read.{level, nothing-below}
+use Rattle.ieee.proofs.Read.{level}
+use Rattle.std.specs.Float.{float_is_finite}
 use Rattle.float.specs.Order.{abs_of, is_finite, negative, max_of, min_of}
 
--- ---- NaN
-self-level : (s : Bool) (a : ℕ) → T (eqb a a && (beq s s || eqb a 0))
-self-level true a = and_i (eqb a a) true (eqb_refl a) tt
-self-level false a = and_i (eqb a a) true (eqb_refl a) tt
-
-pub eq_self : (x : Float) → eq x x ≡ not (is_nan x)
-unfolding eq is_nan
-eq_self nan = refl
-eq_self (inf true) = refl
-eq_self (inf false) = refl
-eq_self (fin s m e) = is_true _ (self-level s (m * up e * down e))
-
-pub ne-self : (x : Float) → ne x x ≡ is_nan x
-unfolding ne
-ne-self x = ap not (eq_self x) ∙ twice (is_nan x)
-  where
-    twice : (b : Bool) → not (not b) ≡ b
-    twice true = refl
-    twice false = refl
-
-odd_number : (d : ℕ) (s : Bool) (q k l : ℕ) → is_nan (odd d s q k l) ≡ false
-unfolding odd is_nan
-odd_number d s zero k l = refl
-odd_number d s (suc q) k l = refl
-
-units_number : (f : Format) (s : Bool) (q k : ℕ) → is_nan (units f s q k) ≡ false
-unfolding units is_nan
-units_number f s q k = pick (ltb (q * 2 ^ k) (2 ^ (low f + suc (emax f))))
-  where
-    pick : (b : Bool) → is_nan (cond b (odd (suc (prec f)) s q k (low f)) (inf s)) ≡ false
-    pick true = odd_number (suc (prec f)) s q k (low f)
-    pick false = refl
-
-pub round_number : (f : Format) (s : Bool) (a c : ℕ) → is_nan (round f s a c) ≡ false
-round_number f s a c = ap is_nan (round_is f s a c) ∙ units_number f s _ _
-
-sum_number : (f : Format) (s : Bool) (a : ℕ) (t : Bool) (b c : ℕ) → is_nan (sum f s a t b c) ≡ false
-unfolding sum
-sum_number f s a t b c = pick (beq s t) (ltb a b)
-  where
-    pick : (p q : Bool) → is_nan (cond p (round f s (a + b) c) (cond q (round f t (b - a) c) (round f (s && ltb b a) (a - b) c))) ≡ false
-    pick true q = round_number f s (a + b) c
-    pick false true = round_number f t (b - a) c
-    pick false false = round_number f (s && ltb b a) (a - b) c
-
-pub finite-self : (f : Format) (x : Float) → eq (sub f x x) (sub f x x) ≡ is_finite x
-unfolding is_finite
-finite-self f nan = eq_self (sub f nan nan) ∙ unfold sub add neg is_nan in refl
-finite-self f (inf true) = eq_self (sub f (inf true) (inf true)) ∙ unfold sub add neg is_nan in refl
-finite-self f (inf false) = eq_self (sub f (inf false) (inf false)) ∙ unfold sub add neg is_nan in refl
-finite-self f (fin s m e) =
-    eq_self (sub f (fin s m e) (fin s m e))
-    ∙ unfold sub add neg in ap not (sum_number f s (m * up e * down e) (not s) (m * up e * down e) (down e * down e))
+-- ---- std's test is `is_finite`
+pub finite-is : (x : Float) → float_is_finite x ≡ is_finite x
+unfolding float_is_finite is_finite
+finite-is nan = refl
+finite-is (inf s) = refl
+finite-is (fin s m e) = refl
 
 -- ---- the size
 pub abs-above : (x : Float) → T (lt null x) → x ≡ abs_of x
@@ -375,19 +327,3 @@ max-null x F h = go (lt x null) refl
             signs true = unfold max_of is_nan lt negative in refl
             signs false = unfold max_of is_nan lt negative in refl
         at (inr z) = sym (ap (λ (w : Float). max_of w null) z ∙ unfold max_of is_nan in refl)
-
--- ---- bit patterns of a NaN
-is-nan : (x : Float) → is_nan x ≡ true → x ≡ nan
-unfolding is_nan
-is-nan nan e = refl
-is-nan (inf s) e = cc
-is-nan (fin s m x) e = cc
-
-pub nan_pattern : (f : Format) (b : ℕ) → nan_bits f b ≡ true → nan ≡ of_bits f b
-nan_pattern f b h = sym (is-nan (of_bits f b) (sym (nan_bits_is f b) ∙ h))
-
-pub nan-bits : (f : Format) (x : Float) → is_nan x ≡ true → ones f * hid f + hid f / 2 ≡ to_bits f x
-nan-bits f x h = sym (ap (to_bits f) (is-nan x h) ∙ written f)
-  where
-    written : (f : Format) → to_bits f nan ≡ ones f * hid f + hid f / 2
-    written f = unfold to_bits in refl

@@ -1,6 +1,7 @@
--- The remainder by whole numbers of the smallest f32. Assumes nothing.
-use Rattle.std.proofs.Common.{◌≡◌, ℕ, zero, suc, ◌+◌, ◌-◌, ◌*◌, ◌/◌, ◌%◌, ◌^◌, ◌<◌, ◌≤◌, Bool, true, false, cond, not, T, eqb, ◌⊎◌, pos, sym, refl, ap, ◌∙◌, subst, inl, inr, le_trans, le_of_eq, lt_of_lt_of_le, lt_irrefl, zero-lt-suc, mul_assoc, mul-pos, add-mul, mul-div_cancel, lt_trans, le_of_lt, mul_right_comm, zero-mul, one-mul, mod-lt, mod-eq_of_lt, mul-le-mul_right, div-lt_iff_lt-mul, arith, eqb→eq, ltb→lt, nltb→le, pow_pos, pow_mono, pow-add, pow-suc, shl_lt}
+-- The remainder by whole numbers of the smallest f32.
+use Rattle.std.proofs.Common.{◌≡◌, ℕ, zero, suc, ◌+◌, ◌-◌, ◌*◌, ◌/◌, ◌%◌, ◌^◌, ◌<◌, ◌≤◌, Bool, true, false, cond, not, T, eqb, ◌⊎◌, pos, sym, refl, ap, ◌∙◌, subst, inl, inr, le_trans, le_of_eq, lt_of_lt_of_le, lt_irrefl, zero-lt-suc, mul_assoc, mul-pos, mul-div_cancel, lt_trans, le_of_lt, mul_right_comm, zero-mul, one-mul, mod-lt, mod-eq_of_lt, mul-le-mul_right, div-lt_iff_lt-mul, arith, min, lt_of_not-le, lit<, lit≤, eqb→eq, ltb→lt, nltb→le, pow_pos, pow_mono, pow-add, shl_lt}
 use lib.Dec.{not_T}
+use lib.Count.{count_leading_zeros, leading_top}
 use native.Mathlib.Nat.{mul-mod_left}
 use lib.Ieee.{Float, nan, inf, fin, Format, binary32, up, down, fits, neg, lt, rem, round, units, to_bits}
 use lib.Ieee.Fits.{up_pos, down_pos}
@@ -27,43 +28,73 @@ common-step a b k B K =
     plain : (n : ℕ) → n + 0 ≡ n
     plain n = omega arith
 
--- ---- the loops
-pub shifted-on : (r l a n m : ℕ) → 0 < m → m < 2 ^ 24 → r < 2 ^ 24 → 40 ≤ l → r * 2 ^ l % m ≡ a * 2 ^ n % m → (r * 2 ^ 40 % 2 ^ 64 % m < 2 ^ 24) × ((r * 2 ^ 40 % 2 ^ 64 % m) * 2 ^ (l - 40) % m ≡ a * 2 ^ n % m)
-shifted-on r l a n m M N R L e = (
+-- ---- forty digits at a time: k times of n / 40
+pub shifted-on : (r k a n m : ℕ) → 0 < m → m < 2 ^ 24 → r < 2 ^ 24 → k < n / 40 → r * 2 ^ (n - 40 * k) % m ≡ a * 2 ^ n % m
+    → (r * 2 ^ 40 % 2 ^ 64 % m < 2 ^ 24) × ((r * 2 ^ 40 % 2 ^ 64 % m) * 2 ^ (n - 40 * (k + 1)) % m ≡ a * 2 ^ n % m)
+shifted-on r k a n m M N R K e = (
   lt_trans (mod-lt (r * 2 ^ 40 % 2 ^ 64) M) N,
-  ap (λ (z : ℕ). (z % m) * 2 ^ (l - 40) % m) (mod-eq_of_lt (shl_lt 24 40 R))
-      ∙ shifted-step r 40 (l - 40) m
-      ∙ ap (λ (z : ℕ). r * 2 ^ z % m) (back l L)
+  ap (λ (z : ℕ). (z % m) * 2 ^ (n - 40 * (k + 1)) % m) (mod-eq_of_lt (shl_lt 24 40 R))
+      ∙ shifted-step r 40 (n - 40 * (k + 1)) m
+      ∙ ap (λ (z : ℕ). r * 2 ^ z % m) back
       ∙ e,
 )
   where
-    back : (l : ℕ) → 40 ≤ l → 40 + (l - 40) ≡ l
-    back l L = omega arith
+    back : 40 + (n - 40 * (k + 1)) ≡ n - 40 * k
+    back = omega arith
 
-pub shifted-last : (r l a n m : ℕ) → r < 2 ^ 24 → l < 40 → r * 2 ^ l % m ≡ a * 2 ^ n % m → r * 2 ^ l % 2 ^ 64 % m ≡ a * 2 ^ n % m
-shifted-last r l a n m R L e = ap (λ (z : ℕ). z % m) (mod-eq_of_lt (lt_of_lt_of_le (shl_lt 24 l R) (pow_mono {i = 24 + l} {j = 64} (room l L)))) ∙ e
+pub shifted-last : (r a n m : ℕ) → r < 2 ^ 24 → r * 2 ^ (n - 40 * (n / 40)) % m ≡ a * 2 ^ n % m → r * 2 ^ (n % 40) % 2 ^ 64 % m ≡ a * 2 ^ n % m
+shifted-last r a n m R e = ap (λ (z : ℕ). z % m) (mod-eq_of_lt (lt_of_lt_of_le (shl_lt 24 (n % 40) R) (pow_mono {i = 24 + n % 40} {j = 64} room))) ∙ ap (λ (z : ℕ). r * 2 ^ z % m) left ∙ e
   where
-    room : (l : ℕ) → l < 40 → 24 + l ≤ 64
-    room l L = omega arith
+    room : 24 + n % 40 ≤ 64
+    room = omega arith
 
-pub doubled : (p l n : ℕ) → 0 < l → p < 8388608 → l ≤ 253 → p * 2 ^ l ≡ n → (p + p < 2 ^ 24) × (l - 1 ≤ 253) × ((p + p) * 2 ^ (l - 1) ≡ n)
-doubled p l n L P K e = (
-  small p P,
-  less l K,
-  add-mul p p (2 ^ (l - 1)) ∙ twice (p * 2 ^ (l - 1)) ∙ mul_assoc p (2 ^ (l - 1)) 2 ∙ ap (λ (z : ℕ). p * z) (sym (pow-suc 2 (l - 1))) ∙ ap (λ (z : ℕ). p * 2 ^ z) (back l L) ∙ e,
-)
-  where
-    small : (p : ℕ) → p < 8388608 → p + p < 2 ^ 24
-    small p P = omega arith
+    left : n % 40 ≡ n - 40 * (n / 40)
+    left = omega arith
 
-    less : (l : ℕ) → l ≤ 253 → l - 1 ≤ 253
-    less l K = omega arith
+-- ---- q doubled d times, until it has 24 digits or nothing of 2 ^ k is left
+pub record Doubled (q k d : ℕ) : Type 0 where
+  pub kept : (k - d ≡ 0) ⊎ (2 ^ 23 ≤ q * 2 ^ d % 2 ^ 64)
+  pub small : q * 2 ^ d % 2 ^ 64 < 2 ^ 24
+  pub same : q * 2 ^ d % 2 ^ 64 * 2 ^ (k - d) ≡ q * 2 ^ k
 
-    twice : (n : ℕ) → n + n ≡ n * 2
-    twice n = omega arith
+digits-few : (q j : ℕ) → q < 2 ^ 24 → 2 ^ j ≤ q → j < 24
+digits-few q j h l = lt_of_not-le (λ (g : 24 ≤ j). lt_irrefl q (lt_of_lt_of_le h (le_trans (pow_mono g) l)))
 
-    back : (l : ℕ) → 0 < l → suc (l - 1) ≡ l
-    back l L = omega arith
+pub few : (q : ℕ) → 0 < q → q < 2 ^ 24 → 40 ≤ count_leading_zeros 64 q
+few q Q h = let l = leading_top 64 q Q (lt_of_lt_of_le h (lit≤ tt)) in omega (arith, l.1, digits-few q l.0 h l.2)
+
+module _ (q k d j z : ℕ) (h : q < 2 ^ 24) (least : 2 ^ j ≤ q) (most : q < 2 ^ suc j) (counted : z + suc j ≡ 64) (e : d ≡ min (z - 40) k) where
+  J : j < 24
+  J = digits-few q j h least
+
+  below : q * 2 ^ d < 2 ^ 24
+  below = lt_of_lt_of_le (shl_lt (suc j) d most) (pow_mono {i = suc j + d} {j = 24} room)
+    where
+      room : suc j + d ≤ 24
+      room = omega (arith, e, counted, J)
+
+  whole-fits : q * 2 ^ d % 2 ^ 64 ≡ q * 2 ^ d
+  whole-fits = mod-eq_of_lt (lt_of_lt_of_le below (lit≤ tt))
+
+  back : d + (k - d) ≡ k
+  back = omega (arith, e)
+
+  either : (y : ℕ) → k - d ≡ y → (y ≡ 0) ⊎ (2 ^ 23 ≤ q * 2 ^ d % 2 ^ 64)
+  either zero g = inl refl
+  either (suc y) g = inr (subst (λ (w : ℕ). 2 ^ 23 ≤ w) (sym whole-fits) (le_trans (pow_mono {i = 23} {j = j + d} more) (le_trans (le_of_eq (pow-add 2 j d)) (mul-le-mul_right (2 ^ d) least))))
+    where
+      more : 23 ≤ j + d
+      more = omega (arith, e, g, counted, J)
+
+  doubled-by : Doubled q k d
+  doubled-by = record {
+    kept = either (k - d) refl;
+    small = subst (λ (w : ℕ). w < 2 ^ 24) (sym whole-fits) below;
+    same = ap (λ (w : ℕ). w * 2 ^ (k - d)) whole-fits ∙ mul_assoc q (2 ^ d) (2 ^ (k - d)) ∙ ap (λ (w : ℕ). q * w) (pw d (k - d) k back);
+  }
+
+pub doubled : (q k d : ℕ) → 0 < q → q < 2 ^ 24 → d ≡ min (count_leading_zeros 64 q - 40) k → Doubled q k d
+doubled q k d Q h e = let l = leading_top 64 q Q (lt_of_lt_of_le h (lit≤ tt)) in doubled-by q k d l.0 (count_leading_zeros 64 q) h l.2 l.3 l.1 e
 
 pub scaled-is : (p l n : ℕ) → p < 2 ^ 24 → l ≤ 253 → p * 2 ^ l ≡ n → units binary32 false p l ≡ round binary32 false n (2 ^ 149)
 scaled-is p l n P L e =
@@ -74,6 +105,13 @@ scaled-is p l n P L e =
   where
     room : (l : ℕ) → l ≤ 253 → 24 + l ≤ 277
     room l L = omega arith
+
+no-units : null ≡ units binary32 false 0 0
+unfolding units
+no-units = refl
+
+pub nothing : (q k : ℕ) → q ≡ 0 → null ≡ round binary32 false (q * 2 ^ k) (2 ^ 149)
+nothing q k e = no-units ∙ scaled-is 0 0 (q * 2 ^ k) (lit< tt) (lit≤ tt) (sym (zero-mul (2 ^ k)) ∙ ap (λ (z : ℕ). z * 2 ^ k) (sym e))
 
 -- ---- of a * 2 ^ i by b * 2 ^ j
 powers : (a x y z : ℕ) → x + y ≡ z → a * 2 ^ x * 2 ^ y ≡ a * 2 ^ z

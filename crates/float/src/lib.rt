@@ -1,84 +1,65 @@
-// The leaves of document 01 on floats, apart from the rounding ones: size and order, the remainder, bit patterns.
+// Size and order of floats, the remainder, and bit patterns.
 #![tactic(auto)]
 
 ghost use Rattle.std.specs.Prelude.{◌≡◌, true, false, ◌+◌, ◌-◌, ◌*◌, ◌/◌, ◌%◌, ◌^◌, ◌<◌, ◌≤◌, pos};
 ghost use Rattle.std.specs.Float.Ieee as Ieee;
-ghost use Rattle.std.specs.Float.{fin, binary32, binary64};
+ghost use Rattle.std.specs.Float.{fin, binary32};
 ghost use Rattle.float.specs.Order.{abs_of, is_finite, max_of, min_of, clamp_of};
 ghost use Rattle.float.specs.Euclid.{rem_euclid_of};
 ghost use Rattle.float.specs.Remainder.{digits_of};
 
 // ---- size and order
 
-pub fn is_nan(x: f32) -> bool
-    ensures { result ≡ Ieee.is_nan x }
-{
-    x != x
-}
-
-pub fn is_nan_f64(x: f64) -> bool
-    ensures { result ≡ Ieee.is_nan x }
-{
-    x != x
-}
-
-// x - x is a number where x is finite.
 pub fn is_finite(x: f32) -> bool
     ensures { result ≡ is_finite x }
 {
-    let d = x - x;
-    d == d
+    x.is_finite()
 }
 
-// 0.0 - x turns -0.0 into 0.0.
+// 0.0 - x turns -0.0 into 0.0. std's abs is slower: it tests for a zero too.
 pub fn abs(x: f32) -> f32
     ensures { result ≡ abs_of x }
 {
     if x > 0.0 { x } else { 0.0 - x }
 }
 
-// Rust's max, with +0 of two zeros of unlike sign. The sum of two zeros is +0 unless both are -0.
+// Rust's max, with +0 of two zeros of unlike sign, where std's leaves the zero's sign open. The sum of two zeros is +0 unless
+// both are -0.
 pub fn max(x: f32, y: f32) -> f32
     ensures { result ≡ max_of x y }
 {
     if x > y {
-        return x;
+        x
+    } else if x < y {
+        y
+    } else if x.is_nan() {
+        y
+    } else if y.is_nan() {
+        x
+    } else if x == 0.0 {
+        x + y
+    } else {
+        x
     }
-    if x < y {
-        return y;
-    }
-    if x != x {
-        return y;
-    }
-    if y != y {
-        return x;
-    }
-    if x == 0.0 {
-        return x + y;
-    }
-    x
 }
 
-// Rust's min, with -0 of two zeros of unlike sign.
+// Rust's min, with -0 of two zeros of unlike sign, where std's leaves the zero's sign open.
 pub fn min(x: f32, y: f32) -> f32
     ensures { result ≡ min_of x y }
 {
     if x < y {
-        return x;
+        x
+    } else if x > y {
+        y
+    } else if x.is_nan() {
+        y
+    } else if y.is_nan() {
+        x
+    } else if x == 0.0 {
+        -(-x + -y)
+    } else {
+        x
     }
-    if x > y {
-        return y;
-    }
-    if x != x {
-        return y;
-    }
-    if y != y {
-        return x;
-    }
-    if x == 0.0 {
-        return -(-x + -y);
-    }
-    x
 }
 
 // max(x, 0.0), the commonest one, by one test.
@@ -88,14 +69,17 @@ pub fn max0(x: f32) -> f32
     if x > 0.0 { x } else { 0.0 }
 }
 
-// Rust's clamp, which a NaN and a -0.0 pass.
+// Rust's clamp, which a NaN and a -0.0 pass. std's asks that lo is at most hi.
 pub fn clamp(x: f32, lo: f32, hi: f32) -> f32
     ensures { result ≡ clamp_of x lo hi }
 {
     if x < lo {
-        return lo;
+        lo
+    } else if x > hi {
+        hi
+    } else {
+        x
     }
-    if x > hi { hi } else { x }
 }
 
 // ---- the remainder
@@ -105,20 +89,13 @@ fn digits(b: u64) -> u64
     ensures { result ≡ digits_of b }
 {
     let low = b & 0x7f_ffff;
-    if b >> 23 == 0 {
-        return low;
-    }
-    low | 0x80_0000
+    if b >> 23 == 0 { low } else { low | 0x80_0000 }
 }
 
 fn power(b: u64) -> u64
     ensures { result ≡ b / 2 ^ 23 - 1 }
 {
-    let field = b >> 23;
-    if field == 0 {
-        return 0;
-    }
-    field - 1
+    (b >> 23).saturating_sub(1)
 }
 
 // The remainder of a * 2^n by m, forty digits at a time.
@@ -127,12 +104,10 @@ fn rem_shifted(a: u64, n: u64, m: u64) -> u64
     ensures { result ≡ a * 2 ^ n % m }
 {
     let mut r = a;
-    let mut left = n;
-    while 40 <= left {
+    for k in 0..n / 40 {
         r = (r << 40) % m;
-        left -= 40;
     }
-    (r << left) % m
+    (r << (n % 40)) % m
 }
 
 // q * 2^k of the smallest f32: q is doubled until it has 24 digits.
@@ -140,16 +115,11 @@ fn scaled(q: u64, k: u64) -> f32
     requires { (q < 2 ^ 24) × (k ≤ 253) }
     ensures { result ≡ Ieee.round binary32 false (q * 2 ^ k) (2 ^ 149) }
 {
-    let mut p = q;
-    let mut l = k;
-    while l > 0 {
-        if p >= 8388608 {
-            return ieee::from_units(l, p);
-        }
-        p = p + p;
-        l -= 1;
+    if q == 0 {
+        return 0.0;
     }
-    ieee::from_units(0, p)
+    let doublings = (q.leading_zeros() as u64 - 40).min(k);
+    ieee::from_units(k - doublings, q << doublings)
 }
 
 // The remainder of a * 2^i of the smallest f32 by b * 2^j of it.
@@ -158,13 +128,12 @@ fn rem_units(a: u64, i: u64, b: u64, j: u64) -> f32
     ensures { result ≡ Ieee.round binary32 false (a * 2 ^ i % (b * 2 ^ j)) (2 ^ 149) }
 {
     if j <= i {
-        return scaled(rem_shifted(a, i - j, b), j);
+        scaled(rem_shifted(a, i - j, b), j)
+    } else if j - i < 24 {
+        scaled(a % (b << (j - i)), i)
+    } else {
+        scaled(a, i)
     }
-    let d = j - i;
-    if d < 24 {
-        return scaled(a % (b << d), i);
-    }
-    scaled(a, i)
 }
 
 // Of two above zero.
@@ -175,12 +144,12 @@ fn rem_above(x: f32, y: f32) -> f32
     let a = f32::to_bits(x) as u64;
     let b = f32::to_bits(y) as u64;
     if a >> 23 == 255 {
-        return 0.0 / 0.0;
+        0.0 / 0.0
+    } else if b >> 23 == 255 {
+        x
+    } else {
+        rem_units(digits(a), power(a), digits(b), power(b))
     }
-    if b >> 23 == 255 {
-        return x;
-    }
-    rem_units(digits(a), power(a), digits(b), power(b))
 }
 
 // Rust's `%` of two f32: x less a whole number of times y, with x's sign, and exact. It is taken by whole numbers of the
@@ -191,17 +160,18 @@ pub fn rem(x: f32, y: f32) -> f32
     let z = abs(y);
     if z > 0.0 {
         if x > 0.0 {
-            return rem_above(x, z);
+            rem_above(x, z)
+        } else if x < 0.0 {
+            -rem_above(-x, z)
+        } else {
+            x
         }
-        if x < 0.0 {
-            return -rem_above(-x, z);
-        }
-        return x;
+    } else {
+        0.0 / 0.0
     }
-    0.0 / 0.0
 }
 
-// Rust's rem_euclid. Within two periods of 0 one sum serves: the remainder rounds the same exact number.
+// Rust's rem_euclid; std's rests on `%`. Within two periods of 0 one sum serves: the remainder rounds the same exact number.
 pub fn rem_euclid(x: f32, y: f32) -> f32
     ensures { result ≡ rem_euclid_of binary32 x y }
 {
@@ -214,10 +184,8 @@ pub fn rem_euclid(x: f32, y: f32) -> f32
             return d;
         }
     }
-    if x < 0.0 {
-        if x > -y {
-            return x + y;
-        }
+    if x < 0.0 && x > -y {
+        return x + y;
     }
     let r = rem(x, y);
     if r < 0.0 { r + abs(y) } else { r }
@@ -228,17 +196,13 @@ pub fn rem_euclid(x: f32, y: f32) -> f32
 pub fn from_bits(b: u32) -> f32
     ensures { result ≡ Ieee.of_bits binary32 b }
 {
-    if 2139095040 < b % 2147483648 {
-        0.0 / 0.0
-    } else {
-        f32::from_bits(b)
-    }
+    std::num::f32_from_bits_with_nan(b)
 }
 
 pub fn to_bits(x: f32) -> u32
     ensures { result ≡ Ieee.to_bits binary32 x }
 {
-    if x != x { 0x7fc0_0000 } else { f32::to_bits(x) }
+    std::num::f32_to_bits_with_nan(x)
 }
 
 // Whether two numbers are the same: their patterns tell zeros of unlike sign apart.
@@ -246,24 +210,4 @@ pub fn same(a: f32, b: f32) -> bool
     ensures { result ≡ true → a ≡ b }
 {
     to_bits(a) == to_bits(b)
-}
-
-pub fn from_bits_f64(b: u64) -> f64
-    ensures { result ≡ Ieee.of_bits binary64 b }
-{
-    if 9218868437227405312 < b % 9223372036854775808 {
-        0.0 / 0.0
-    } else {
-        f64::from_bits(b)
-    }
-}
-
-pub fn to_bits_f64(x: f64) -> u64
-    ensures { result ≡ Ieee.to_bits binary64 x }
-{
-    if x != x {
-        0x7ff8_0000_0000_0000
-    } else {
-        f64::to_bits(x)
-    }
 }

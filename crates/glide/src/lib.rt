@@ -3,7 +3,7 @@
 
 ghost use Rattle.std.specs.Prelude.{◌≡◌, ◌+◌, ◌^◌, ◌≤◌, ◌<◌, length};
 ghost use Rattle.tree.specs.Comm.{later};
-ghost use Rattle.control.specs.Moves.{glided, moved, risen};
+ghost use Rattle.control.specs.Moves.{glided, moved};
 ghost use Rattle.unit.specs.Block.{Pitched};
 ghost use Rattle.machine.specs.Samples.{tick};
 ghost use Rattle.glide.specs.Glide.{risen_by};
@@ -13,24 +13,8 @@ pub fn glide_on(c: control::Controls) -> control::Controls
     ensures { result ≡ moved c }
 {
     control::Controls {
-        position: c.position,
         pitch: control::glide_step(c.pitch, c.target, c.glide),
-        target: c.target,
-        glide: c.glide,
-        bend: c.bend,
-    }
-}
-
-fn rise(c: control::Controls) -> control::Controls
-    requires { c.position + 1 < 2 ^ 64 }
-    ensures { result ≡ risen c }
-{
-    control::Controls {
-        position: c.position + 1,
-        pitch: c.pitch,
-        target: c.target,
-        glide: c.glide,
-        bend: c.bend,
+        ..c
     }
 }
 
@@ -41,10 +25,7 @@ fn rise_by(c: control::Controls, n: u64) -> control::Controls
 {
     control::Controls {
         position: c.position + n,
-        pitch: c.pitch,
-        target: c.target,
-        glide: c.glide,
-        bend: c.bend,
+        ..c
     }
 }
 
@@ -62,12 +43,10 @@ fn glide_moving(first: control::Controls, pitch: &mut [f32]) -> control::Control
     ensures { (result ≡ later tick (length pitch.old) first) × Pitched (moved first) pitch.new (length pitch.old) }
 {
     let mut c = first;
-    let mut k: usize = 0;
-    while k < pitch.len() {
+    for y in pitch.iter_mut() {
         let m = glide_on(c);
-        pitch[k] = m.pitch * m.bend;
-        c = rise(m);
-        k += 1;
+        *y = m.pitch * m.bend;
+        c = rise_by(m, 1);
     }
     c
 }

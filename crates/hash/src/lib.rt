@@ -1,31 +1,32 @@
 // FNV-1a with 64 bits over words and floats, each a word, and over what a voice leaves.
 #![tactic(auto)]
 
-ghost use Rattle.std.specs.Prelude.{◌≡◌};
-ghost use Rattle.hash.specs.Hash.{mixed, hashed, same, bits_of, state_of};
+ghost use Rattle.std.specs.Prelude.{◌≡◌, ℕ};
+ghost use Rattle.hash.specs.Hash.{mixed, hashed, bits_of, state_of};
 
 pub const BASIS: u64 = 0xcbf2_9ce4_8422_2325;
 
+#[tactic(auto, unfolding(crate::specs::Hash::mixed))]
 pub fn mix(h: u64, w: u64) -> u64
     ensures { result ≡ mixed h w }
 {
-    word::wrapping_mul(word::xor(h, w), 0x100_0000_01b3)
+    (h ^ w).wrapping_mul(0x100_0000_01b3)
 }
 
 pub fn mix_float(h: u64, x: f32) -> u64
     ensures { result ≡ mixed h (bits_of x) }
 {
-    mix(h, float::to_bits(x) as u64)
+    mix(h, u64::from(float::to_bits(x)))
 }
 
-pub fn hash_words(first: u64, words: &[u64]) -> u64
-    ensures { result ≡ hashed same first words.now }
+// The hash with all of xs, each by its word.
+pub fn hash_all<T: Copy, F: Fn(T) -> u64>(first: u64, xs: &[T], word: F) -> u64
+    requires { F.IsAlwaysCallable word }
+    ensures { (w : T → ℕ) → ((x : T) (r : ℕ) → F.post word x r → r ≡ w x) → result ≡ hashed w first xs.now }
 {
     let mut h = first;
-    let mut k: usize = 0;
-    while k < words.len() {
-        h = mix(h, words[k]);
-        k += 1;
+    for x in xs {
+        h = mix(h, word(*x));
     }
     h
 }
@@ -33,13 +34,7 @@ pub fn hash_words(first: u64, words: &[u64]) -> u64
 pub fn hash_floats(first: u64, xs: &[f32]) -> u64
     ensures { result ≡ hashed bits_of first xs.now }
 {
-    let mut h = first;
-    let mut k: usize = 0;
-    while k < xs.len() {
-        h = mix_float(h, xs[k]);
-        k += 1;
-    }
-    h
+    hash_all(first, xs, |x| u64::from(float::to_bits(x)))
 }
 
 // What a voice leaves: its controls, and the cells, registers and scratch that it needs.
@@ -48,5 +43,5 @@ pub fn hash_state(c: control::Controls, cells: &[f32], regs: &[u64], scr: &[f32]
 {
     let a = mix_float(mix(BASIS, c.position), c.pitch);
     let b = mix_float(mix_float(mix_float(a, c.target), c.glide), c.bend);
-    hash_floats(hash_words(hash_floats(b, cells), regs), scr)
+    hash_floats(hash_all(hash_floats(b, cells), regs, |w| w), scr)
 }

@@ -1,12 +1,12 @@
 -- A float from its parts: `build` says that the bit pattern k * hid + q, hid the weight of the exponent's field, is `units f false q k`, and `round-at` that the rounding of a fraction is `units` of the nearest
 -- whole number of units of 2 ^ k. Then the nearest whole number by a shift of the digits. Assumes nothing.
-use Rattle.std.proofs.Common.{◌≡◌, ℕ, zero, suc, ◌+◌, ◌-◌, ◌*◌, ◌/◌, ◌%◌, ◌^◌, ◌<◌, ◌≤◌, Bool, true, false, cond, not, ◌&&◌, T, eqb, ltb, leb, ◌⊎◌, sym, refl, ap, ◌∙◌, subst, inl, inr, true≢false, le_trans, le_of_eq, lt_of_lt_of_le, lt_of_le_of_lt, le_of_lt, lt_irrefl, mul-le-mul_right, mod-eq_of_lt, zero-lt-suc, mul_assoc, mul_comm, div-lt_iff_lt-mul, le_antisymm, eq-or-lt_of_le, mul-le-mul_left, mul-pos, one-mul, pow-suc, lt_of_not-le, le-div_iff_mul-le, zero-add, mul-one, not-le_of_lt, div-mul-le_self, le_of_mul-le-mul_right, mul-div_cancel, arith, lit<, lit≤, le→leb, eqb→eq, ltb→lt, lt→ltb, nltb→le, pow_pos, pow_mono, pow-add, shl_lt}
+use Rattle.std.proofs.Common.{◌≡◌, ℕ, suc, ◌+◌, ◌-◌, ◌*◌, ◌/◌, ◌%◌, ◌^◌, ◌<◌, ◌≤◌, Bool, true, false, cond, not, T, eqb, ltb, ◌⊎◌, sym, refl, ap, ◌∙◌, subst, inl, inr, true≢false, le_trans, le_of_eq, lt_of_lt_of_le, lt_of_le_of_lt, le_of_lt, lt_irrefl, mul-le-mul_right, mod-eq_of_lt, mul_assoc, mul_comm, div-lt_iff_lt-mul, le_antisymm, eq-or-lt_of_le, mul-le-mul_left, mul-pos, one-mul, pow-suc, lt_of_not-le, le-div_iff_mul-le, zero-add, not-le_of_lt, div-mul-le_self, le_of_mul-le-mul_right, mul-div_cancel, arith, lit<, le→leb, eqb→eq, ltb→lt, lt→ltb, nltb→le, pow_pos, pow_mono, pow-add, shl_lt}
 use Prim.Native.Nat.{compare, Ordering}
 use native.Mathlib.Nat.{mod-eq-sub-div-mul}
 use lib.Dec.{is_le, compare_is_eq, not_T}
 use lib.Arith.{lt→nleb}
 use lib.Pow.{pow-lt}
-use lib.Ieee.{Float, nan, inf, fin, Format, binary32, binary64, prec, emax, low, hid, ones, up, down, size, nearest, odd, units, round, fits, is_nan, nan_bits, of_bits, to_bits}
+use lib.Ieee.{Float, nan, inf, fin, Format, binary32, binary64, prec, emax, low, hid, ones, down, size, nearest, odd, units, round, fits, is_nan, nan_bits, of_bits, to_bits}
 use lib.Ieee.Digits.{size-lt, size-le}
 use lib.Ieee.Fits.{down_pos, nearest-le, round_is, odd-fits, inf-fits, eq→eqb, two, two-le_pos}
 use lib.Ieee.Bits.{of_bits-to_bits, nan_bits_is}

@@ -1,5 +1,5 @@
--- The whole part of a float: where the C-like cast is asked for within its range, and where Rust's saturates. Assumes nothing.
-use Rattle.std.proofs.Common.{◌≡◌, ℕ, zero, suc, ◌+◌, ◌-◌, ◌*◌, ◌/◌, ◌%◌, ◌^◌, ◌<◌, ◌≤◌, min, Bool, true, false, cond, not, ◌&&◌, ◌||◌, T, eqb, ltb, ◌⊎◌, ℤ, pos, negsuc, neg_ℤ, sym, refl, ap, ◌∙◌, subst, inl, inr, true≢false, le_trans, le_of_eq, lt_of_lt_of_le, le_of_lt, mul-le-mul_right, zero-lt-suc, div-lt_iff_lt-mul, mul-pos, one-mul, le-div_iff_mul-le, mul-one, arith, eqb→eq, ltb→lt, lt→ltb, nltb→le, T_not, pow_pos, pow_mono}
+-- The whole part of a float: where the C-like cast is asked for within its range, and where Rust's saturates.
+use Rattle.std.proofs.Common.{◌≡◌, ℕ, ◌+◌, ◌-◌, ◌*◌, ◌/◌, ◌^◌, ◌<◌, ◌≤◌, min, Bool, true, false, not, ◌&&◌, ◌||◌, T, eqb, ltb, ◌⊎◌, ℤ, sym, refl, ap, ◌∙◌, subst, inl, inr, le_of_eq, lt_of_lt_of_le, le_of_lt, mul-le-mul_right, zero-lt-suc, div-lt_iff_lt-mul, mul-pos, one-mul, le-div_iff_mul-le, mul-one, arith, eqb→eq, ltb→lt, lt→ltb, nltb→le, T_not, pow_pos, pow_mono}
 use native.Mathlib.Nat.{div-eq_of_lt}
 use lib.Ieee.{Float, nan, inf, fin, up, down, lt, le, eq, neg, to_unsigned, to_signed}
 use lib.Ieee.Fits.{up_pos, down_pos, and_l, and_r}
@@ -84,14 +84,6 @@ sat-top w (inf false) h = refl
 sat-top w (fin true m e) h = absurd (not_negative w m e h)
 sat-top w (fin false m e) h = sym (capped (m * up e / down e) (2 ^ w) (whole-ge w m e h))
 
-pub signed_top : (h : ℕ) (x : Float) → T (le (two_to h) x) → pos (2 ^ h - 1) ≡ to_signed h x
-unfolding le lt eq to_signed
-signed_top h nan t = absurd t
-signed_top h (inf true) t = absurd t
-signed_top h (inf false) t = refl
-signed_top h (fin true m e) t = absurd (not_negative h m e t)
-signed_top h (fin false m e) t = sym (ap pos (capped (m * up e / down e) (2 ^ h) (whole-ge h m e t)))
-
 -- neither 2 ^ w or more nor a NaN: below it
 pub not-le : (w : ℕ) (x : Float) → T (not (le (two_to w) x)) → T (eq x x) → T (lt x (two_to w))
 unfolding le lt eq
@@ -137,32 +129,3 @@ sat-zero w (fin false m e) h =
 
     least : (k : ℕ) → min 0 k ≡ 0
     least k = omega arith
-
--- -2 ^ h or less
-pub signed_low : (h : ℕ) (x : Float) → T (not (le (neg (two_to h)) x)) → T (eq x x) → neg_ℤ (pos (2 ^ h)) ≡ to_signed h x
-unfolding le lt eq neg to_signed
-signed_low h nan t n = absurd n
-signed_low h (inf true) t n = refl
-signed_low h (inf false) t n = absurd t
-signed_low h (fin false m e) t n = absurd (T_not (ltb 0 (1 * 2 ^ h * down e + m * up e * 1)) (or-false (ltb 0 (1 * 2 ^ h * down e + m * up e * 1)) (eqb (1 * 2 ^ h * down e) (m * up e * 1) && (false || eqb (1 * 2 ^ h * down e) 0)) t).0 (lt→ltb 0 (1 * 2 ^ h * down e + m * up e * 1) (go (1 * 2 ^ h * down e) (m * up e * 1) (mul-pos (mul-pos (zero-lt-suc 0) (pow_pos h)) (down_pos e)))))
-  where
-    go : (a b : ℕ) → 0 < a → 0 < a + b
-    go a b h = omega arith
-signed_low h (fin true m e) t n =
-    sym (ap (λ (k : ℕ). neg_ℤ (pos k)) (most (m * up e / down e) (2 ^ h) ((le-div_iff_mul-le (down_pos e)).1 (le_trans (le_of_eq (ap (λ (z : ℕ). z * down e) (sym (one-mul (2 ^ h))))) (le_trans (nltb→le (m * up e * 1) (1 * 2 ^ h * down e) (or-false (ltb (m * up e * 1) (1 * 2 ^ h * down e)) (eqb (1 * 2 ^ h * down e) (m * up e * 1) && true) t).0) (le_of_eq (mul-one (m * up e))))))))
-  where
-    most : (a c : ℕ) → c ≤ a → min a c ≡ c
-    most a c h = omega arith
-
-pub le-number : (y x : Float) → T (le y x) → T (eq x x)
-unfolding le lt eq
-le-number y nan h = absurd (none y h)
-  where
-    none : (y : Float) → T (lt y nan || eq y nan) → ⊥
-    none nan h = h
-    none (inf s) h = h
-    none (fin s m e) h = h
-le-number y (inf true) h = tt
-le-number y (inf false) h = tt
-le-number y (fin true m e) h = lib.Ieee.Fits.and_i (eqb (m * up e * down e) (m * up e * down e)) true (lib.Dec.eqb_refl (m * up e * down e)) tt
-le-number y (fin false m e) h = lib.Ieee.Fits.and_i (eqb (m * up e * down e) (m * up e * down e)) true (lib.Dec.eqb_refl (m * up e * down e)) tt

@@ -1,9 +1,9 @@
--- A float above zero by its bit pattern, and what its negation is. Assumes nothing.
-use Rattle.std.proofs.Common.{◌≡◌, ℕ, zero, suc, ◌+◌, ◌-◌, ◌*◌, ◌/◌, ◌%◌, ◌^◌, ◌<◌, ◌≤◌, Bool, true, false, cond, not, ◌&&◌, T, eqb, ltb, leb, ◌⊎◌, ℤ, pos, negsuc, sym, refl, ap, ◌∙◌, subst, inl, inr, mod-lt, mod-eq_of_lt, zero-lt-suc, mul-pos, arith, eqb→eq, ltb→lt, lt→ltb, nltb→le, T_not, pow_pos}
-use lib.Dec.{nleb→lt, eqb_refl}
-use lib.Bits.{bit_and, bit_or, and_mask, or_shifted_r}
-use lib.Ieee.{Float, nan, inf, fin, Format, prec, emax, low, up, down, hid, ones, top, odd, units, round, neg, lt, eq, fits, is_nan, of_fields, of_bits, to_bits}
-use lib.Ieee.Fits.{up_pos, down_pos, and_i, and_l, and_r, eq→eqb, round_is}
+-- A float above zero by its bit pattern, and what its negation is.
+use Rattle.std.proofs.Common.{◌≡◌, ℕ, zero, suc, ◌+◌, ◌-◌, ◌*◌, ◌/◌, ◌%◌, ◌^◌, ◌<◌, ◌≤◌, Bool, true, false, cond, not, T, eqb, ltb, leb, ◌⊎◌, ℤ, pos, sym, refl, ap, ◌∙◌, subst, inl, inr, mod-eq_of_lt, zero-lt-suc, mul-pos, arith, eqb→eq, ltb→lt, lt→ltb, nltb→le, T_not}
+use lib.Dec.{nleb→lt}
+use lib.Bits.{bit_and, and_mask}
+use lib.Ieee.{Float, nan, inf, fin, Format, prec, emax, low, up, down, hid, ones, top, odd, units, round, neg, lt, fits, is_nan, of_fields, of_bits, to_bits}
+use lib.Ieee.Fits.{up_pos, eq→eqb, round_is}
 use lib.Ieee.Bits.{of_bits-to_bits}
 use lib.Ieee.Exact.{HasValue, odd_sign}
 use Rattle.ieee.proofs.Tests.{null, no}
@@ -65,16 +65,9 @@ seen f x F h =
     let e : b % top f ≡ b = mod-eq_of_lt l in
     (l, subst (λ (z : ℕ). Seen f x (z / hid f) (b % hid f)) e (subst (λ (v : Float). Seen f v (b % top f / hid f) (b % hid f)) (sym is) r.1))
 
--- the digits by a mask, and under the leading one
+-- the digits by a mask
 pub low-are : (k b : ℕ) → bit_and b (2 ^ k - 1) ≡ b % 2 ^ k
 low-are k b = and_mask b k
-
-pub digits_are : (k b : ℕ) → bit_or (bit_and b (2 ^ k - 1)) (2 ^ k) ≡ 2 ^ k + b % 2 ^ k
-digits_are k b =
-    ap (λ (z : ℕ). bit_or z (2 ^ k)) (and_mask b k)
-    ∙ ap (λ (z : ℕ). bit_or (b % 2 ^ k) z) (sym (native.Mathlib.Nat.one-mul (2 ^ k)))
-    ∙ or_shifted_r 1 k (b % 2 ^ k) (mod-lt b (pow_pos k))
-    ∙ ap (λ (z : ℕ). z + b % 2 ^ k) (native.Mathlib.Nat.one-mul (2 ^ k))
 
 -- ---- signs
 neg-odd : (d q k l : ℕ) → neg (odd d false q k l) ≡ odd d true q k l
@@ -121,18 +114,3 @@ level f (fin false (suc m) e) F a b = absurd (go (suc m * up e) (down e) (mul-po
   where
     go : (a d : ℕ) → 0 < a → a * 1 ≤ 0 * 1 * d → ⊥
     go a d p h = omega arith
-
--- a number equals itself
-pub no_self : (x : Float) → T (not (eq x x)) → x ≡ nan
-unfolding eq
-no_self nan h = refl
-no_self (inf true) h = absurd h
-no_self (inf false) h = absurd h
-no_self (fin true m e) h = absurd (T_not (eqb (m * up e * down e) (m * up e * down e) && true) h (and_i (eqb (m * up e * down e) (m * up e * down e)) true (eqb_refl (m * up e * down e)) tt))
-no_self (fin false m e) h = absurd (T_not (eqb (m * up e * down e) (m * up e * down e) && true) h (and_i (eqb (m * up e * down e) (m * up e * down e)) true (eqb_refl (m * up e * down e)) tt))
-
-pub self-number : (x : Float) → T (eq x x) → T (not (is_nan x))
-unfolding eq is_nan
-self-number nan h = absurd h
-self-number (inf s) h = tt
-self-number (fin s m e) h = tt

@@ -1,6 +1,6 @@
--- Small things that proofs about floats share: tests as facts, the constants of comparisons, and the literals as the checker reads them. Assumes nothing.
+-- Small things that proofs about floats share: tests as facts, the constants of comparisons, and the literals as the checker reads them.
 use Rattle.std.proofs.Common.{◌≡◌, ℕ, Bool, true, false, cond, not, T, pos, negsuc, sym, refl, subst}
-use lib.Ieee.{Float, nan, inf, fin, binary32, binary64, of_bits, neg, div}
+use lib.Ieee.{Float, nan, fin, binary32, binary64, of_bits, div}
 
 abbrev pub null : Float
 null = fin false 0 (pos 0)
@@ -77,7 +77,3 @@ zero-by-zero-32 = refl
 pub zero-by-zero-64 : div binary64 (of_bits binary64 0) (of_bits binary64 0) ≡ nan
 unfolding div of_bits
 zero-by-zero-64 = refl
-
-pub one-by-zero-32 : div binary32 (of_bits binary32 0x3f80_0000) (of_bits binary32 0) ≡ inf false
-unfolding div of_bits
-one-by-zero-32 = refl

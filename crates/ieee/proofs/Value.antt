@@ -1,16 +1,15 @@
 -- Floats by what they are worth. `HasValue x s a c` says that x is finite, has the sign s and is a / c in size.
 -- A value is written in one way (`same-value`), the rounding of what a format holds changes nothing (`value-self`), and sums, differences and comparisons of values are those of their fractions.
 -- Assumes nothing.
-use Rattle.std.proofs.Common.{◌≡◌, ℕ, zero, suc, ◌+◌, ◌-◌, ◌*◌, ◌/◌, ◌%◌, ◌^◌, ◌<◌, ◌≤◌, Bool, true, false, cond, not, ◌&&◌, ◌||◌, T, eqb, ltb, leb, ◌⊎◌, ℤ, pos, negsuc, sym, refl, ap, ◌∙◌, subst, inl, inr, true≢false, le_trans, le_of_eq, lt_of_lt_of_le, le_of_suc-le-suc, lt_of_le_of_lt, le_of_lt, lt_irrefl, mul-le-mul_right, zero-lt-suc, mul_assoc, mul_comm, add-mul, lt_of_mul-lt-mul_right, mul-le-mul_left, mul-lt-mul_of_pos_right, mul-pos, one-mul, pow-suc, lt_of_not-le, zero-mul, mul-one, sub-add_cancel, mul_right_comm, le_of_mul-le-mul_right, mul_left_comm, add-sub_cancel, arith, lit<, lit≤, eqb→eq, ltb→lt, lt→ltb, leb→le, nltb→le, pow_pos, pow_mono, pow-add}
-use mathlib.Core.Bool.{false≢true}
+use Rattle.std.proofs.Common.{◌≡◌, ℕ, zero, suc, ◌+◌, ◌-◌, ◌*◌, ◌%◌, ◌^◌, ◌<◌, ◌≤◌, Bool, true, false, ◌&&◌, ◌||◌, T, eqb, ltb, leb, ℤ, pos, negsuc, sym, refl, ap, ◌∙◌, subst, true≢false, le_of_eq, lt_of_lt_of_le, le_of_suc-le-suc, lt_of_le_of_lt, lt_irrefl, zero-lt-suc, mul_assoc, mul_comm, add-mul, lt_of_mul-lt-mul_right, mul-lt-mul_of_pos_right, mul-pos, one-mul, pow-suc, lt_of_not-le, zero-mul, mul-one, sub-add_cancel, mul_right_comm, mul_left_comm, arith, lit≤, eqb→eq, ltb→lt, lt→ltb, leb→le, pow_pos, pow_mono, pow-add}
 use native.Mathlib.Nat.{pow-succ', eq_of_mul-eq-mul_right, mul-sub}
 use lib.Pow.{pow-lt}
 use lib.Ieee.{Float, nan, inf, fin, Format, binary32, binary64, prec, emax, low, up, down, fits, is_nan, neg, lt, eq, le, round, units, odd, sum, add, sub, of_int}
-use lib.Ieee.Fits.{up_pos, down_pos, and_i, and_l, and_r, round-fits, of_int-fits, eq→eqb, round_is}
-use lib.Ieee.Exact.{HasValue, round_exact, odd_sign}
+use lib.Ieee.Fits.{up_pos, down_pos, and_i, and_l, and_r, round-fits, eq→eqb}
+use lib.Ieee.Exact.{HasValue, round_exact}
 use lib.Ieee.Scale.{round_same}
-use lib.Ieee.Back.{round_whole, whole_unique}
-use Rattle.ieee.proofs.Tests.{null, two_to, a_half, cond_yes, cond_no}
+use lib.Ieee.Back.{round_whole}
+use Rattle.ieee.proofs.Tests.{two_to, cond_yes, cond_no}
 
 -- ---- what `fits` says, taken apart
 pub fits-odd : (f : Format) (s : Bool) (m : ℕ) (e : ℤ) → T (fits f (fin s (suc m) e)) → suc m % 2 ≡ 1

@@ -1,16 +1,15 @@
 -- To a whole number with two additions. In a format of p + 1 digits the numbers from 2 ^ p to 2 ^ (p + 1) are whole, so for a y between 0 and 2 ^ p the sum y + 2 ^ p is rounded to a whole number,
 -- and t = (y + 2 ^ p) - 2 ^ p is the whole number nearest to y, a tie to the even one. A comparison of t with y then tells the floor, the ceiling and the round that takes a half away from zero.
 -- Assumes nothing.
-use Rattle.std.proofs.Common.{◌≡◌, ℕ, zero, suc, ◌+◌, ◌-◌, ◌*◌, ◌/◌, ◌%◌, ◌^◌, ◌<◌, ◌≤◌, Bool, true, false, cond, not, ◌&&◌, ◌||◌, T, eqb, ltb, ◌⊎◌, ℤ, pos, negsuc, sym, refl, ap, ◌∙◌, subst, inl, inr, true≢false, le_trans, le_of_eq, lt_of_lt_of_le, le_of_suc-le-suc, lt_of_le_of_lt, le_of_lt, mul-le-mul_right, mod-lt, zero-lt-suc, mul_assoc, suc-mul, mul_comm, div-lt_iff_lt-mul, add-mul, le_antisymm, mul-lt-mul_of_pos_right, mul-pos, one-mul, div-add-mod', le-div_iff_mul-le, mul-one, mul_right_comm, arith, lit<, lit≤, eqb→eq, ltb→lt, nltb→le, T_not, pow_pos, pow_mono, pow-add}
+use Rattle.std.proofs.Common.{◌≡◌, ℕ, zero, suc, ◌+◌, ◌-◌, ◌*◌, ◌/◌, ◌%◌, ◌^◌, ◌<◌, ◌≤◌, Bool, true, false, cond, not, ◌&&◌, T, eqb, ltb, ◌⊎◌, pos, negsuc, sym, refl, ap, ◌∙◌, subst, inl, inr, true≢false, le_trans, le_of_eq, lt_of_lt_of_le, le_of_suc-le-suc, lt_of_le_of_lt, le_of_lt, mul-le-mul_right, mod-lt, zero-lt-suc, mul_assoc, suc-mul, mul_comm, div-lt_iff_lt-mul, add-mul, le_antisymm, mul-lt-mul_of_pos_right, mul-pos, one-mul, div-add-mod', le-div_iff_mul-le, mul-one, mul_right_comm, arith, lit<, eqb→eq, ltb→lt, nltb→le, T_not, pow_pos, pow_mono, pow-add}
 use Prim.Native.Nat.{compare, Ordering}
 use native.Mathlib.Nat.{add-mul-div_right, add-mul-mod_self_right}
 use lib.Dec.{not_T}
 use lib.Pow.{pow-lt}
 use lib.Ieee.{Float, nan, inf, fin, Format, binary32, binary64, prec, emax, low, up, down, fits, lt, eq, round, units, odd, nearest, add, sub, of_int}
-use lib.Ieee.Fits.{up_pos, down_pos, and_l, and_r, nearest-le, round_is}
+use lib.Ieee.Fits.{down_pos, and_l, and_r, nearest-le, round_is}
 use lib.Ieee.Exact.{HasValue, units_val, odd_sign}
-use lib.Ieee.Scale.{round_same}
-use lib.Ieee.Nearest.{closest, closest_same, nearest-ge}
+use lib.Ieee.Nearest.{closest, closest_same}
 use lib.Ieee.Positive.{num, den, den_pos}
 use Rattle.ieee.proofs.Tests.{null, two_to, a_half}
 use Rattle.ieee.proofs.Value.{fits_lt, add-values, sub-values, sub-under, lt-values, eq-values, revalue, fraction-exact, den-power, whole-value, two-to-value, add-whole, sub-whole}

@@ -14,12 +14,12 @@ pub fn closest_shift(n: u64, k: u64) -> u64
     let rest = n - (q << k);
     let half = 1u64 << (k - 1);
     if rest < half {
-        return q;
+        q
+    } else if half < rest {
+        q + 1
+    } else {
+        q + q % 2
     }
-    if half < rest {
-        return q + 1;
-    }
-    q + q % 2
 }
 
 // q * 2^k of the smallest f32: the bit pattern is a sum, since the leading digit of q adds one to the exponent's field.

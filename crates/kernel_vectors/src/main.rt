@@ -1,5 +1,6 @@
 // Holds each kernel of a sample to the answers of the Rust's own code, which compare/answers wrote, and prints a line for
-// each: its cases, how many of their answers differ, and the first of those. The kernels are in the order of the file.
+// each: its cases, how many of their answers differ, and the first of those. The kernels are in the order of the file: a
+// place is the number of the section there, and an enum of the kernels would name each twice.
 #![tactic(auto)]
 
 mod of_dsp;
@@ -12,6 +13,8 @@ mod of_value;
 mod words;
 
 use std::io;
+use std::io::{BufReader, BufWriter, Write};
+use vectors::Operands;
 
 // Where each crate's kernels end.
 const DSP: u8 = 13;
@@ -26,33 +29,27 @@ const SOURCE: u8 = 49;
 
 const PROC: u8 = 63;
 
-fn answer(place: u8, which: u8, x: [u64; 20]) -> u64 {
+fn answer(place: u8, which: u8, x: Operands) -> u64 {
     if place < DSP {
-        return of_dsp::answer(place, which, x);
+        of_dsp::answer(place, which, x)
+    } else if place < LINES {
+        of_lines::answer(place - DSP, x)
+    } else if place < RENDER {
+        of_render::answer(place - LINES, which, x)
+    } else if place < VALUE {
+        of_value::answer(place - RENDER, which, x)
+    } else if place < SOURCE {
+        of_source::answer(place - VALUE, which, x)
+    } else {
+        of_proc::answer(place - SOURCE, which, x)
     }
-    if place < LINES {
-        return of_lines::answer(place - DSP, x);
-    }
-    if place < RENDER {
-        return of_render::answer(place - LINES, which, x);
-    }
-    if place < VALUE {
-        return of_value::answer(place - RENDER, which, x);
-    }
-    if place < SOURCE {
-        return of_source::answer(place - VALUE, which, x);
-    }
-    of_proc::answer(place - SOURCE, which, x)
 }
 
 fn main(rt: HostRuntime) -> io::Result<()> {
-    let mut input = rt.stdin();
-    let mut output = rt.stdout();
-    let mut run = vectors::begin(&mut input, &mut output, PROC)?;
-    while run.left > 0 {
-        let operands = run.operands;
-        let got = answer(run.place, run.which, operands);
-        run = vectors::with_answer(&mut input, &mut output, run, got)?;
-    }
-    Ok(())
+    let mut input = BufReader::new(rt.alloc(), rt.stdin())?;
+    let mut output = BufWriter::new(rt.alloc(), rt.stdout())?;
+    vectors::compare(&mut input, &mut output, PROC, |place, which, x| {
+        answer(place, which, x)
+    })?;
+    output.flush()
 }

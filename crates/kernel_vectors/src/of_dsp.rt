@@ -1,79 +1,69 @@
-ghost use Rattle.std.specs.Prelude.{◌^◌, ◌<◌};
+use crate::words::{adsr, half, low, of_single, one_of, single, whole};
+use rng::Rng;
+use vectors::Operands;
 
-use crate::words::{half, low, of_single, single, whole};
-
-fn drawn(which: u8, d: rng::Drawn) -> u64 {
+// A number that is drawn, and then the halves of the generator's word.
+fn drawn<F: Fn(&mut Rng) -> f32>(which: u8, state: u64, draw: F) -> u64
+    requires { F.IsAlwaysCallable draw }
+{
+    let mut rng = Rng { state };
+    let x = draw(&mut rng);
     if which > 0 {
-        return half(which - 1, d.state);
+        return half(which - 1, rng.state);
     }
-    of_single(d.x)
+    of_single(x)
 }
 
-fn word_of(which: u8, w: rng::Word) -> u64 {
-    if which == 0 { w.state } else { w.word }
+fn next_word(which: u8, state: u64) -> u64 {
+    let mut rng = Rng { state };
+    let word = rng.next_u64();
+    if which == 0 { rng.state } else { word }
 }
 
-fn generator(place: u8, which: u8, x: [u64; 20]) -> u64 {
+fn generator(place: u8, which: u8, x: Operands) -> u64 {
+    let state = whole(x[0], x[1]);
     match place {
         0 => rng::splitmix_mix(x[0]),
-        1 => word_of(which, rng::next_u64(x[0])),
-        2 => drawn(which, rng::unit(whole(x[0], x[1]))),
-        3 => drawn(which, rng::bi(whole(x[0], x[1]))),
-        4 => drawn(
-            which,
-            rng::range(whole(x[0], x[1]), single(x[2]), single(x[3])),
-        ),
+        1 => next_word(which, x[0]),
+        2 => drawn(which, state, |r| r.unit()),
+        3 => drawn(which, state, |r| r.bi()),
+        4 => drawn(which, state, |r| r.range(single(x[2]), single(x[3]))),
         5 => rng::node_path(x[0], x[1]),
         6 => rng::node_seed(x[0]),
         _ => half(
             which,
-            rng::rand_seed(whole(x[0], x[1]), low(x[2]), low(x[3]), low(x[4])),
+            rng::rand_seed(state, low(x[2]), low(x[3]), low(x[4])),
         ),
     }
 }
 
-fn follower(which: u8, f: dsp::Follower) -> f32 {
-    if which == 0 { f.at } else { f.rt }
+fn envelope(x: Operands) -> f32 {
+    let env = adsr([x[1], x[2], x[3], x[4], x[5]]);
+    envelope::adsr_env(env, single(x[0]), single(x[6]))
 }
 
-fn resonator(which: u8, m: dsp::Resonator) -> f32 {
-    match which {
-        0 => m.a1,
-        1 => m.a2,
-        _ => m.b0,
-    }
-}
-
-fn envelope(x: [u64; 20]) -> f32 {
-    envelope::adsr_env(
-        single(x[0]),
-        single(x[1]),
-        single(x[2]),
-        single(x[3]),
-        single(x[4]),
-        single(x[5]),
-        single(x[6]),
-    )
-}
-
-fn coefficient(place: u8, which: u8, x: [u64; 20]) -> f32 {
+fn coefficient(place: u8, which: u8, x: Operands) -> u64 {
     let a = single(x[0]);
     let b = single(x[1]);
     let c = single(x[2]);
     match place {
-        8 => envelope(x),
-        9 => dsp::one_pole(a, b),
-        10 => follower(which, dsp::follower_coeffs(a, b, c)),
-        11 => resonator(which, dsp::modal_coeffs(a, b, c, low(x[3]))),
-        _ => dsp::freeverb_feedback(a),
+        8 => of_single(envelope(x)),
+        9 => of_single(dsp::one_pole(a, b)),
+        10 => {
+            let f = dsp::follower_coeffs(a, b, c);
+            one_of(which, &[f.at, f.rt])
+        }
+        11 => {
+            let m = dsp::modal_coeffs(a, b, c, low(x[3]));
+            one_of(which, &[m.a1, m.a2, m.b0])
+        }
+        _ => of_single(dsp::freeverb_feedback(a)),
     }
 }
 
-pub fn answer(place: u8, which: u8, x: [u64; 20]) -> u64
-    ensures { result < 2 ^ 64 }
-{
+pub fn answer(place: u8, which: u8, x: Operands) -> u64 {
     if place < 8 {
         return generator(place, which, x);
     }
-    of_single(coefficient(place, which, x))
+    coefficient(place, which, x)
 }

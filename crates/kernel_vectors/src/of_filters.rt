@@ -1,43 +1,34 @@
 // The filters: a kind is a number and, for a peak and the shelves, a gain.
-ghost use Rattle.std.specs.Prelude.{◌^◌, ◌<◌};
-
-use crate::words::{low, of_single, single};
+use crate::words::{low, one_of, single};
+use biquad::{FilterKind, Response};
+use filter_step::Filter;
+use vectors::Operands;
 
 // The kinds in the order of their declaration.
-fn kind_of(n: u64, gain: f32) -> biquad::FilterKind {
+fn kind_of(n: u64, gain: f32) -> FilterKind {
     match n {
-        0 => biquad::FilterKind::Low,
-        1 => biquad::FilterKind::High,
-        2 => biquad::FilterKind::Band,
-        3 => biquad::FilterKind::Notch,
-        4 => biquad::FilterKind::Peak(gain),
-        5 => biquad::FilterKind::LowShelf(gain),
-        _ => biquad::FilterKind::HighShelf(gain),
+        0 => FilterKind::Low,
+        1 => FilterKind::High,
+        2 => FilterKind::Band,
+        3 => FilterKind::Notch,
+        4 => FilterKind::Peak(gain),
+        5 => FilterKind::LowShelf(gain),
+        _ => FilterKind::HighShelf(gain),
     }
 }
 
-fn part(which: u8, c: biquad::Coefficients) -> f32 {
-    match which {
-        0 => c.b0,
-        1 => c.b1,
-        2 => c.b2,
-        3 => c.a1,
-        _ => c.a2,
-    }
+pub fn coefficient(which: u8, x: Operands) -> u64 {
+    let r = Response {
+        kind: kind_of(x[0], single(x[1])),
+        q: single(x[3]),
+        sr: low(x[4]),
+    };
+    let c = biquad::biquad_coeffs(r, single(x[2]));
+    one_of(which, &[c.b0, c.b1, c.b2, c.a1, c.a2])
 }
 
-pub fn coefficient(which: u8, x: [u64; 20]) -> u64
-    ensures { result < 2 ^ 64 }
-{
-    let kind = kind_of(x[0], single(x[1]));
-    of_single(part(
-        which,
-        biquad::biquad_coeffs(kind, single(x[2]), single(x[3]), low(x[4])),
-    ))
-}
-
-fn cells(x: [u64; 20]) -> filter_step::Filter {
-    filter_step::Filter {
+fn cells(x: Operands) -> Filter {
+    Filter {
         scale: single(x[5]),
         prev_f: single(x[6]),
         b0: single(x[7]),
@@ -52,37 +43,16 @@ fn cells(x: [u64; 20]) -> filter_step::Filter {
     }
 }
 
-fn cell(which: u8, s: filter_step::Filter) -> f32 {
-    match which {
-        1 => s.scale,
-        2 => s.prev_f,
-        3 => s.b0,
-        4 => s.b1,
-        5 => s.b2,
-        6 => s.a1,
-        7 => s.a2,
-        8 => s.x1,
-        9 => s.x2,
-        10 => s.y1,
-        _ => s.y2,
-    }
-}
-
-pub fn step(which: u8, x: [u64; 20]) -> u64
-    ensures { result < 2 ^ 64 }
-{
-    let kind = kind_of(x[0], single(x[1]));
-    let f = filter_step::filter_step(
-        kind,
-        single(x[2]),
-        low(x[3]),
-        single(x[4]),
-        cells(x),
-        single(x[16]),
-    );
-    if which == 0 {
-        return of_single(f.out);
-    }
-    let s = f.filter;
-    of_single(cell(which, s))
+pub fn step(which: u8, x: Operands) -> u64 {
+    let r = Response {
+        kind: kind_of(x[0], single(x[1])),
+        q: single(x[2]),
+        sr: low(x[3]),
+    };
+    let mut s = cells(x);
+    let y = s.step(r, single(x[4]), single(x[16]));
+    let after = [
+        y, s.scale, s.prev_f, s.b0, s.b1, s.b2, s.a1, s.a2, s.x1, s.x2, s.y1, s.y2,
+    ];
+    one_of(which, &after)
 }

@@ -1,13 +1,14 @@
-ghost use Rattle.std.specs.Prelude.{◌≡◌, ◌^◌, ◌≤◌, ◌<◌, get_or};
+ghost use Rattle.std.specs.Prelude.{◌≡◌, ◌≤◌, ◌<◌, get_or};
 ghost use Rattle.lines.specs.Lines.{reverb_lines};
 
 use crate::words::{below, of_single, single};
+use vectors::Operands;
 
 // The rates of a document end at 192,000.
 fn rate(x: u64) -> u32
     ensures { result ≤ 192000 }
 {
-    if x < 192000 { x as u32 } else { 192000 }
+    x.min(192000) as u32
 }
 
 // The length of line k: the six combs', then the four allpasses'.
@@ -15,14 +16,10 @@ fn line_len(k: u64, sr: u32) -> u64
     requires { (k < 10) × (sr ≤ 192000) }
     ensures { result ≡ get_or (reverb_lines sr) k 0 }
 {
-    let mut lens = [0u64; 10];
-    lines::reverb_lens(sr, &mut lens);
-    lens[k as usize]
+    lines::reverb_lens(sr)[k as usize]
 }
 
-pub fn answer(place: u8, x: [u64; 20]) -> u64
-    ensures { result < 2 ^ 64 }
-{
+pub fn answer(place: u8, x: Operands) -> u64 {
     match place {
         0 => lines::delay_line_len(single(x[0]), rate(x[1])),
         1 => of_single(lines::chorus_base(rate(x[0]))),

@@ -1,22 +1,20 @@
-ghost use Rattle.std.specs.Prelude.{◌^◌, ◌<◌};
-
 use crate::of_filters;
 use crate::words::{choice, of_single, single};
+use dsl::{DriveShape, Shape};
+use vectors::Operands;
 
-fn float_of(place: u8, x: [u64; 20]) -> f32 {
+fn float_of(place: u8, x: Operands) -> f32 {
     let a = single(x[0]);
     let b = single(x[1]);
     match place {
         0 => osc::poly_blep(a, b),
-        1 => osc::osc(dsl::shape_of(choice(x[0])), b),
-        3 => drive::drive_curve(a, dsl::drive_shape_of(choice(x[1]))),
-        _ => drive::drive_antideriv(a, dsl::drive_shape_of(choice(x[1]))),
+        1 => osc::osc(Shape::from(choice(x[0])), b),
+        3 => drive::drive_curve(a, DriveShape::from(choice(x[1]))),
+        _ => drive::drive_antideriv(a, DriveShape::from(choice(x[1]))),
     }
 }
 
-pub fn answer(place: u8, which: u8, x: [u64; 20]) -> u64
-    ensures { result < 2 ^ 64 }
-{
+pub fn answer(place: u8, which: u8, x: Operands) -> u64 {
     if place == 2 {
         return of_filters::coefficient(which, x);
     }

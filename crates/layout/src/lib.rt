@@ -11,10 +11,7 @@ ghost use Rattle.layout.specs.Tables.{Table, Passed};
 pub fn voices(n: u32) -> u64
     ensures { (result ≡ max 1 (min n 16)) × (result ≤ 16) }
 {
-    if n < 1 {
-        return 1;
-    }
-    if n < 16 { n as u64 } else { 16 }
+    u64::from(n.clamp(1, 16))
 }
 
 // How many records stand in the chain that begins at f.
@@ -22,6 +19,7 @@ pub fn chain_length(sheet: &[u8], count: usize, nexts: &[usize], f: usize) -> u6
     requires { Passed sheet.now count × Table (next sheet.now) count nexts.now × (f < count) }
     ensures { (result ≡ length (spine (records sheet.now f))) × (result ≤ 256) }
 {
+    // The walk goes by links; an iterator over them, for this loop and the one over a Modal's modes, would be longer than both.
     let mut n = 0u64;
     let mut j = f;
     while j != 0 {

@@ -88,7 +88,7 @@ pub extern "C" fn leaf_rem_euclid(x: f32, y: f32) -> f32
 pub extern "C" fn leaf_is_nan(x: f32) -> bool
     ensures { result ≡ Ieee.is_nan x }
 {
-    float::is_nan(x)
+    x.is_nan()
 }
 
 #[unsafe(no_mangle)]
@@ -123,21 +123,21 @@ pub extern "C" fn leaf_round_f64(x: f64) -> f64
 pub extern "C" fn leaf_is_nan_f64(x: f64) -> bool
     ensures { result ≡ Ieee.is_nan x }
 {
-    float::is_nan_f64(x)
+    x.is_nan()
 }
 
 #[unsafe(no_mangle)]
 pub extern "C" fn leaf_from_bits_f64(b: u64) -> f64
     ensures { result ≡ Ieee.of_bits binary64 b }
 {
-    float::from_bits_f64(b)
+    std::num::f64_from_bits_with_nan(b)
 }
 
 #[unsafe(no_mangle)]
 pub extern "C" fn leaf_to_bits_f64(x: f64) -> u64
     ensures { result ≡ Ieee.to_bits binary64 x }
 {
-    float::to_bits_f64(x)
+    std::num::f64_to_bits_with_nan(x)
 }
 
 #[unsafe(no_mangle)]

@@ -6,15 +6,16 @@ mod leaves;
 
 use leaves::{LEAVES, answer};
 use std::io;
+use std::io::{BufReader, BufWriter, Write};
 
 fn main(rt: HostRuntime) -> io::Result<()> {
-    let mut input = rt.stdin();
-    let mut output = rt.stdout();
-    let mut run = vectors::begin(&mut input, &mut output, LEAVES)?;
-    while run.left > 0 {
-        let operands = run.operands;
-        let got = answer(run.place, operands);
-        run = vectors::with_answer(&mut input, &mut output, run, got)?;
-    }
-    Ok(())
+    let mut input = BufReader::new(rt.alloc(), rt.stdin())?;
+    let mut output = BufWriter::new(rt.alloc(), rt.stdout())?;
+    vectors::compare(
+        &mut input,
+        &mut output,
+        LEAVES,
+        |place, _, x| answer(place, x),
+    )?;
+    output.flush()
 }

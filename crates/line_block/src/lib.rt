@@ -10,41 +10,38 @@ pub fn delay_block(out: &mut [f32], line: &mut [f32], feedback: f32, place: u64)
     ensures { (out.new ≡ given (delay_step out.old feedback (length line.old)) (line.old, place) (length out.old)) × ((line.new, result) ≡ after (delay_step out.old feedback (length line.old)) (line.old, place) (length out.old)) × (result < length line.new) }
 {
     let mut w = place;
-    let mut k: usize = 0;
-    while k < out.len() {
+    for k in 0..out.len() {
         let y = line_step::delay(feedback, out[k], line[w as usize]);
         line[w as usize] = y;
         out[k] = y;
         w = line_step::next_place(w, line.len() as u64);
-        k += 1;
     }
     w
 }
 
 // ---- Chorus, from the sines of its LFO, which are worked out first: a loop over the line would hold up each sine.
 
-fn chorus_by(
-    out: &mut [f32],
-    sines: &[f32],
-    line: &mut [f32],
-    base: f32,
-    swing: f32,
-    mix: f32,
-    place: u64,
-) -> u64
+// base and swing are `chorus_base` and `chorus_swing` of the sheet, worked out once.
+#[derive(Clone, Copy)]
+pub struct Chorus {
+    pub base: f32,
+    pub swing: f32,
+    pub rate: f32,
+    pub mix: f32,
+}
+
+fn chorus_by(out: &mut [f32], sines: &[f32], line: &mut [f32], c: Chorus, place: u64) -> u64
     requires { (place < length line.old) × (length out.old ≤ length sines.now) }
-    ensures { (out.new ≡ given (chorus_by_step out.old sines.now base swing mix (length line.old)) (line.old, place) (length out.old)) × ((line.new, result) ≡ after (chorus_by_step out.old sines.now base swing mix (length line.old)) (line.old, place) (length out.old)) × (result < length line.new) }
+    ensures { (out.new ≡ given (chorus_by_step out.old sines.now c.base c.swing c.mix (length line.old)) (line.old, place) (length out.old)) × ((line.new, result) ≡ after (chorus_by_step out.old sines.now c.base c.swing c.mix (length line.old)) (line.old, place) (length out.old)) × (result < length line.new) }
 {
     let len = line.len() as u64;
     let mut w = place;
-    let mut k: usize = 0;
-    while k < out.len() {
+    for k in 0..out.len() {
         let x = out[k];
         line[w as usize] = x;
-        let r = line_step::chorus_place(base, swing, sines[k], len, w);
-        out[k] = line_step::chorus(mix, r.frac, x, line[r.i0 as usize], line[r.i1 as usize]);
+        let r = line_step::chorus_place(c.base, c.swing, sines[k], len, w);
+        out[k] = line_step::chorus(c.mix, r.frac, x, line[r.i0 as usize], line[r.i1 as usize]);
         w = line_step::next_place(w, len);
-        k += 1;
     }
     w
 }
@@ -53,48 +50,31 @@ fn chorus_in(
     out: &mut [f32],
     sines: &mut [f32],
     line: &mut [f32],
-    base: f32,
-    swing: f32,
-    rate: f32,
+    c: Chorus,
     srf: f32,
-    mix: f32,
     t: u64,
     place: u64,
 ) -> u64
     requires { (place < length line.old) × (t + length out.old < 2 ^ 64) × (length sines.old ≡ length out.old) }
-    ensures { (out.new ≡ given (chorus_step out.old base swing rate srf mix (length line.old) t) (line.old, place) (length out.old)) × ((line.new, result) ≡ after (chorus_step out.old base swing rate srf mix (length line.old) t) (line.old, place) (length out.old)) × (result < length line.new) }
+    ensures { (out.new ≡ given (chorus_step out.old c.base c.swing c.rate srf c.mix (length line.old) t) (line.old, place) (length out.old)) × ((line.new, result) ≡ after (chorus_step out.old c.base c.swing c.rate srf c.mix (length line.old) t) (line.old, place) (length out.old)) × (result < length line.new) }
 {
-    proc_block::lfo_block(sines, rate, srf, t);
-    chorus_by(out, sines, line, base, swing, mix, place)
+    proc_block::lfo_block(sines, c.rate, srf, t);
+    chorus_by(out, sines, line, c, place)
 }
 
-// base and swing are `chorus_base` and `chorus_swing` of the sheet, worked out once; t is the position of the first sample.
+// srf is the sample rate, and t the position of the first sample.
 pub fn chorus_block(
     out: &mut [f32],
     buf: &mut [f32],
     line: &mut [f32],
-    base: f32,
-    swing: f32,
-    rate: f32,
+    c: Chorus,
     srf: f32,
-    mix: f32,
     t: u64,
     place: u64,
 ) -> u64
     requires { (place < length line.old) × (t + length out.old < 2 ^ 64) × (length out.old ≤ length buf.old) }
-    ensures { (out.new ≡ given (chorus_step out.old base swing rate srf mix (length line.old) t) (line.old, place) (length out.old)) × ((line.new, result) ≡ after (chorus_step out.old base swing rate srf mix (length line.old) t) (line.old, place) (length out.old)) × (result < length line.new) }
+    ensures { (out.new ≡ given (chorus_step out.old c.base c.swing c.rate srf c.mix (length line.old) t) (line.old, place) (length out.old)) × ((line.new, result) ≡ after (chorus_step out.old c.base c.swing c.rate srf c.mix (length line.old) t) (line.old, place) (length out.old)) × (result < length line.new) }
 {
     let n = out.len();
-    chorus_in(
-        out,
-        &mut buf[..n],
-        line,
-        base,
-        swing,
-        rate,
-        srf,
-        mix,
-        t,
-        place,
-    )
+    chorus_in(out, &mut buf[..n], line, c, srf, t, place)
 }

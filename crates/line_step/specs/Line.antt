@@ -6,8 +6,6 @@ use Rattle.rounding.specs.Whole.{floor_of}
 use Rattle.float.specs.Euclid.{rem_euclid_of}
 use Rattle.float.specs.Single.{◌⊕◌, ◌⊖◌, ◌⊗◌, half, one}
 use Rattle.proc.specs.Effects.{blend, lfo_at}
-use Rattle.line_step.specs.declared.CombOut.{CombOut}
-use Rattle.line_step.specs.declared.AllpassOut.{AllpassOut}
 use Rattle.line_step.specs.declared.ChorusRead.{ChorusRead}
 
 abbrev pub delay_of : Float → Float → Float → Float
@@ -16,15 +14,15 @@ delay_of feedback x delayed = x ⊕ feedback ⊗ delayed
 abbrev pub next_place : ℕ → ℕ → ℕ
 next_place w len = (w + 1) % len
 
--- Freeverb's damped comb: y is what the line held, the store its smoothed value; and its allpass, of gain one half
-unfoldable pub comb_of : Float → Float → Float → Float → CombOut
+-- Freeverb's damped comb: y is what the line held, the store its smoothed value. It gives the sample, the next store and what goes into the line. Its allpass, of gain one half, gives the sample and what goes into the line.
+unfoldable pub comb_of : Float → Float → Float → Float → Float × Float × Float
 comb_of feedback store x y =
     let damp = of_bits binary32 0x3e4c_cccd in
     let fs = y ⊗ (one ⊖ damp) ⊕ store ⊗ damp in
-    record { out = y; store = fs; line = x ⊕ fs ⊗ feedback }
+    (y, fs, x ⊕ fs ⊗ feedback)
 
-unfoldable pub allpass_of : Float → Float → AllpassOut
-allpass_of wet buffered = record { out = neg wet ⊕ buffered; line = wet ⊕ buffered ⊗ half }
+unfoldable pub allpass_of : Float → Float → Float × Float
+allpass_of wet buffered = (neg wet ⊕ buffered, wet ⊕ buffered ⊗ half)
 
 -- what the six combs and four allpasses give, mixed with the input: a sixth of the combs' sum
 unfoldable pub reverb_mix : Float → Float → Float → Float

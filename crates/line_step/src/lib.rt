@@ -4,19 +4,6 @@
 ghost use Rattle.std.specs.Prelude.{◌≡◌, ◌%◌, ◌<◌};
 ghost use Rattle.line_step.specs.Line.{delay_of, next_place, comb_of, allpass_of, reverb_mix, chorus_place, chorus_read, chorus_of};
 
-#[derive(Clone, Copy)]
-pub struct CombOut {
-    pub out: f32,
-    pub store: f32,
-    pub line: f32,
-}
-
-#[derive(Clone, Copy)]
-pub struct AllpassOut {
-    pub out: f32,
-    pub line: f32,
-}
-
 // Two places of the line and how far between them.
 #[derive(Clone, Copy)]
 pub struct ChorusRead {
@@ -40,26 +27,24 @@ pub fn next_place(w: u64, len: u64) -> u64
     if next < len { next } else { 0 }
 }
 
-pub fn comb(feedback: f32, store: f32, x: f32, y: f32) -> CombOut
+// What it gives, the next store, and what goes into its line.
+#[tactic(auto, unfolding(crate::specs::Line::comb_of))]
+pub fn comb(feedback: f32, store: f32, x: f32, y: f32) -> (f32, f32, f32)
     ensures { result ≡ comb_of feedback store x y }
 {
     let fs = y * (1.0 - 0.2) + store * 0.2;
-    CombOut {
-        out: y,
-        store: fs,
-        line: x + fs * feedback,
-    }
+    (y, fs, x + fs * feedback)
 }
 
-pub fn allpass(wet: f32, buffered: f32) -> AllpassOut
+// What it gives, and what goes into its line.
+#[tactic(auto, unfolding(crate::specs::Line::allpass_of))]
+pub fn allpass(wet: f32, buffered: f32) -> (f32, f32)
     ensures { result ≡ allpass_of wet buffered }
 {
-    AllpassOut {
-        out: -wet + buffered,
-        line: wet + buffered * 0.5,
-    }
+    (-wet + buffered, wet + buffered * 0.5)
 }
 
+#[tactic(auto, unfolding(crate::specs::Line::reverb_mix))]
 pub fn reverb_mix(mix: f32, x: f32, wet: f32) -> f32
     ensures { result ≡ reverb_mix mix x wet }
 {
@@ -75,6 +60,7 @@ fn within(i: u64, len: u64) -> u64
 }
 
 // A remainder that rounds up to the line's length is taken at 0 by the last remainder.
+#[tactic(auto, unfolding(crate::specs::Line::chorus_place))]
 pub fn chorus_place(base: f32, swing: f32, sine: f32, len: u64, w: u64) -> ChorusRead
     requires { 0 < len }
     ensures { (result ≡ chorus_place base swing sine len w) × (result.i0 < len) × (result.i1 < len) }
@@ -90,6 +76,7 @@ pub fn chorus_place(base: f32, swing: f32, sine: f32, len: u64, w: u64) -> Choru
     }
 }
 
+#[tactic(auto, unfolding(crate::specs::Line::chorus_read))]
 pub fn chorus_read(
     base: f32,
     swing: f32,
@@ -105,6 +92,7 @@ pub fn chorus_read(
     chorus_place(base, swing, proc::lfo_at(rate, srf, t), len, w)
 }
 
+#[tactic(auto, unfolding(crate::specs::Line::chorus_of))]
 pub fn chorus(mix: f32, frac: f32, x: f32, a: f32, b: f32) -> f32
     ensures { result ≡ chorus_of mix frac x a b }
 {

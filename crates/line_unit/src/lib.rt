@@ -38,8 +38,7 @@ pub fn reverb(r: &[u8], sr: u32, out: &mut [f32], cells: &mut [f32], regs: &mut 
     requires { (40 ≤ length r.now) × (sr ≤ 192000) × (length cells.old ≡ line_from (reverb_lines sr) 10 + 6) × Placed (reverb_lines sr) regs.old }
     ensures { (c : Controls) → Ran (reverb_unit (feedback_of (number_of r.now 0)) (clamp_of (number_of r.now 1) zero one) sr) c [] out.old cells.old regs.old out.new cells.new regs.new }
 {
-    let mut lens = [0u64; 10];
-    lines::reverb_lens_apart(sr, &mut lens);
+    let lens = lines::reverb_lens_apart(sr);
     reverb_lines(r, &lens, out, cells, regs);
 }
 
@@ -55,14 +54,14 @@ pub fn chorus(
     requires { (40 ≤ length r.now) × (length regs.old ≡ 1) × (word regs.old 0 < length cells.old) × (c.position + length out.old < 2 ^ 64) × (length out.old ≤ length buf.old) }
     ensures { Ran (chorus_unit (chorus_base sr) (chorus_swing (number_of r.now 1) sr) (number_of r.now 0) (of_int binary32 (pos sr)) (clamp_of (number_of r.now 2) zero one)) c [] out.old cells.old regs.old out.new cells.new regs.new }
 {
-    let base = lines::chorus_base(sr);
-    let swing = lines::chorus_swing(sheet::number(r, 1), sr);
-    let rate = sheet::number(r, 0);
+    let effect = line_block::Chorus {
+        base: lines::chorus_base(sr),
+        swing: lines::chorus_swing(sheet::number(r, 1), sr),
+        rate: sheet::number(r, 0),
+        mix: float::clamp(sheet::number(r, 2), 0.0, 1.0),
+    };
     let srf = cast::u32_to_f32(sr);
-    let mix = float::clamp(sheet::number(r, 2), 0.0, 1.0);
     let place = regs[0];
-    let next = line_block::chorus_block(
-        out, buf, cells, base, swing, rate, srf, mix, c.position, place,
-    );
+    let next = line_block::chorus_block(out, buf, cells, effect, srf, c.position, place);
     regs[0] = next;
 }

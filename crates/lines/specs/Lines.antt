@@ -1,5 +1,5 @@
 -- How many samples the delay lines have, at sr samples a second. All is worked out in f32, each operation rounded. The cast at the end drops the fraction, and takes a NaN and what is below zero as 0.
-use Rattle.std.specs.Prelude.{ℕ, ◌+◌, max, List, [], ◌∷◌, pos, get_or, Float}
+use Rattle.std.specs.Prelude.{ℕ, ◌+◌, max, List, [], ◌∷◌, ◌++◌, pos, get_or, Float}
 use Rattle.std.specs.Float.{binary32}
 use Rattle.std.specs.Float.Ieee.{of_bits, of_int, add, mul, div, to_unsigned}
 use Rattle.float.specs.Order.{min_of, clamp_of}
@@ -54,6 +54,9 @@ comb_tunings = 1116 ∷ 1188 ∷ 1277 ∷ 1356 ∷ 1422 ∷ 1491 ∷ []
 
 abbrev pub allpass_tunings : List ℕ
 allpass_tunings = 556 ∷ 441 ∷ 341 ∷ 225 ∷ []
+
+abbrev pub reverb_tunings : List ℕ
+reverb_tunings = comb_tunings ++ allpass_tunings
 
 abbrev pub comb_line : ℕ → ℕ → ℕ
 comb_line k sr = tuned_line (get_or comb_tunings k 0) sr

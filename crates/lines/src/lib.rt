@@ -1,9 +1,9 @@
 #![tactic(auto)]
 
-ghost use Rattle.std.specs.Prelude.{◌≡◌, false, ℕ, ◌≤◌, max, length, pos, T};
+ghost use Rattle.std.specs.Prelude.{◌≡◌, false, ℕ, ◌≤◌, max, map, pos, T};
 ghost use Rattle.std.specs.Float.{fin, binary32};
 ghost use Rattle.std.specs.Float.Ieee.{mul, div, lt};
-ghost use Rattle.lines.specs.Lines.{single, tuning_rate, delay_line, chorus_base, chorus_swing, chorus_line, tuned_line, comb_line, allpass_line, reverb_lines};
+ghost use Rattle.lines.specs.Lines.{single, tuning_rate, delay_line, chorus_base, chorus_swing, chorus_line, tuned_line, reverb_tunings, comb_line, allpass_line, reverb_lines};
 
 // Also what a NaN counts as.
 const MAX_DELAY_SECS: f32 = 30.0;
@@ -17,7 +17,7 @@ const CHORUS_SWING_SECS: f32 = 0.010;
 pub fn at_least_one(n: u64) -> u64
     ensures { result ≡ max n 1 }
 {
-    if n < 1 { 1 } else { n }
+    n.max(1)
 }
 
 pub fn delay_line_len(secs: f32, sr: u32) -> u64
@@ -57,45 +57,46 @@ fn tuned_by(t: f32, scale: f32) -> u64
     cast::small_to_u64(if y > 1.0 { y } else { 1.0 })
 }
 
-// Freeverb's six combs, then its four allpasses.
-pub fn reverb_lens(sr: u32, lens: &mut [u64])
-    requires { (sr ≤ 192000) × (length lens.old ≡ 10) }
-    ensures { (lens.new ≡ reverb_lines sr) × ((k : ℕ) → (1 ≤ comb_line k sr) × (comb_line k sr ≤ 6491)) × ((k : ℕ) → (1 ≤ allpass_line k sr) × (allpass_line k sr ≤ 2420)) }
-{
-    let scale = cast::small_to_f32(sr as u64) / 44100.0;
-    lens[0] = tuned_by(1116.0, scale);
-    lens[1] = tuned_by(1188.0, scale);
-    lens[2] = tuned_by(1277.0, scale);
-    lens[3] = tuned_by(1356.0, scale);
-    lens[4] = tuned_by(1422.0, scale);
-    lens[5] = tuned_by(1491.0, scale);
-    lens[6] = tuned_by(556.0, scale);
-    lens[7] = tuned_by(441.0, scale);
-    lens[8] = tuned_by(341.0, scale);
-    lens[9] = tuned_by(225.0, scale);
-}
-
 fn tuned_apart(t: f32, scale: f32) -> u64
     ensures { (n sr : ℕ) → t ≡ single n → scale ≡ div binary32 (single sr) tuning_rate → result ≡ tuned_line n sr }
 {
     at_least_one(cast::f32_to_u64(t * scale))
 }
 
+// Freeverb's six combs, then its four allpasses, each as long as `tuned` makes its tuning.
+fn lens_by<F: Fn(f32) -> u64>(tuned: F) -> [u64; 10]
+    requires { (n : ℕ) → n ≤ 1491 → F.pre tuned (single n) }
+    ensures { (f : ℕ → ℕ) → ((n r : ℕ) → F.post tuned (single n) r → r ≡ f n) → result ≡ map f reverb_tunings }
+{
+    [
+        tuned(1116.0),
+        tuned(1188.0),
+        tuned(1277.0),
+        tuned(1356.0),
+        tuned(1422.0),
+        tuned(1491.0),
+        tuned(556.0),
+        tuned(441.0),
+        tuned(341.0),
+        tuned(225.0),
+    ]
+}
+
+// The lengths of the lines of a reverb.
+pub fn reverb_lens(sr: u32) -> [u64; 10]
+    requires { sr ≤ 192000 }
+    ensures { (result ≡ reverb_lines sr) × ((k : ℕ) → (1 ≤ comb_line k sr) × (comb_line k sr ≤ 6491)) × ((k : ℕ) → (1 ≤ allpass_line k sr) × (allpass_line k sr ≤ 2420)) }
+{
+    let scale = cast::small_to_f32(sr as u64) / 44100.0;
+    lens_by(|t| tuned_by(t, scale))
+}
+
 // The same by the general cast, for the kernel. With the short form the compiler keeps lengths and places two to a vector,
 // where words of 64 bits are slow to compare, and a sample takes half as long again.
-pub fn reverb_lens_apart(sr: u32, lens: &mut [u64])
-    requires { (sr ≤ 192000) × (length lens.old ≡ 10) }
-    ensures { (lens.new ≡ reverb_lines sr) × ((k : ℕ) → (1 ≤ comb_line k sr) × (comb_line k sr ≤ 6491)) × ((k : ℕ) → (1 ≤ allpass_line k sr) × (allpass_line k sr ≤ 2420)) }
+pub fn reverb_lens_apart(sr: u32) -> [u64; 10]
+    requires { sr ≤ 192000 }
+    ensures { (result ≡ reverb_lines sr) × ((k : ℕ) → (1 ≤ comb_line k sr) × (comb_line k sr ≤ 6491)) × ((k : ℕ) → (1 ≤ allpass_line k sr) × (allpass_line k sr ≤ 2420)) }
 {
     let scale = cast::u32_to_f32(sr) / 44100.0;
-    lens[0] = tuned_apart(1116.0, scale);
-    lens[1] = tuned_apart(1188.0, scale);
-    lens[2] = tuned_apart(1277.0, scale);
-    lens[3] = tuned_apart(1356.0, scale);
-    lens[4] = tuned_apart(1422.0, scale);
-    lens[5] = tuned_apart(1491.0, scale);
-    lens[6] = tuned_apart(556.0, scale);
-    lens[7] = tuned_apart(441.0, scale);
-    lens[8] = tuned_apart(341.0, scale);
-    lens[9] = tuned_apart(225.0, scale);
+    lens_by(|t| tuned_apart(t, scale))
 }

@@ -24,22 +24,7 @@ fn join_into(kind: u8, acc: &mut [f32], x: &[f32])
     requires { length acc.old ≡ length x.now }
     ensures { acc.new ≡ zip (join_of kind) acc.old x.now }
 {
-    let mut k: usize = 0;
-    while k < acc.len() {
-        acc[k] = join(kind, acc[k], x[k]);
-        k += 1;
-    }
-}
-
-fn copy_from(out: &mut [f32], x: &[f32])
-    requires { length out.old ≡ length x.now }
-    ensures { out.new ≡ x.now }
-{
-    let mut k: usize = 0;
-    while k < out.len() {
-        out[k] = x[k];
-        k += 1;
-    }
+    block::run_block(acc, (), |k, s, a| (join(kind, a, x[k]), s));
 }
 
 // The n numbers of the scratch from at on: filled, joined to, and taken.
@@ -64,5 +49,5 @@ pub fn scratch_take(out: &mut [f32], scr: &[f32], at: usize)
     ensures { out.new ≡ mid at (length out.old) scr.now }
 {
     let e = at + out.len();
-    copy_from(out, &scr[at..e]);
+    out.copy_from_slice(&scr[at..e]);
 }

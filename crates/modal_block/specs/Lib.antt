@@ -1,3 +1,4 @@
 pub mod Interchange
 pub mod Modal
 pub mod Modes
+pub mod Groups

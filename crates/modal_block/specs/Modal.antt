@@ -16,7 +16,7 @@ unfoldable pub put_mode : List Float → ℕ → Mode → List Float
 put_mode cs k m = set (set cs (5 * k + 3) m.y1) (5 * k + 4) m.y2
 
 unfoldable pub mode_step : Float → Float × List Float → ℕ → Float × List Float
-mode_step x (sum, cs) k = let o = mode_of (mode_at cs k) x in (sum ⊕ o.out, put_mode cs k o.mode)
+mode_step x (sum, cs) k = let o = mode_of (mode_at cs k) x in (sum ⊕ o.0, put_mode cs k o.1)
 
 abbrev pub modes : Float → List Float → ℕ → Float × List Float
 modes x cs = units (mode_step x) (single.zero, cs)

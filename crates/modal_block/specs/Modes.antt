@@ -1,22 +1,24 @@
 -- Modal's modes own cells apart from each other, so they commute; and a mode over a few samples needs its cells only before and after.
-use Rattle.std.specs.Prelude.{◌≡◌, refl, ℕ, zero, suc, ◌+◌, ◌*◌, ◌<◌, length, get_or, Float}
+-- So mode after mode, each over all the samples, gives what sample after sample gives.
+use Rattle.std.specs.Prelude.{◌≡◌, refl, ℕ, zero, suc, ◌+◌, ◌*◌, ◌<◌, length, get_or, replicate, Float}
 use Rattle.std.proofs.Math.Path.{sym, ap}
 use Rattle.std.proofs.Common.{◌∙◌}
-use mathlib.Core.List.{List, [], ◌∷◌}
+use mathlib.Core.List.{List, [], ◌∷◌, ◌++◌, map, map-append}
 use native.Mathlib.Omega.{arith}
-use Rattle.std.proofs.Math.ListN.{set, length-set}
+use Rattle.std.proofs.Math.ListN.{set, length-set, get_or-map}
+use Rattle.std.proofs.lemmas.List.{length-map}
 use Rattle.std.proofs.Math.Seq.{get_or-set_same, get_or-set_other, set-set, set-get_or}
 use Rattle.std.proofs.lemmas.List.{set_comm}
 use Rattle.std.specs.Float.Ieee.{nan}
 use Rattle.float.specs.Single.{◌⊕◌}
 use Rattle.float.specs.Single as single
-use Rattle.tree.specs.Comm.{M, both, both', Comm, blk, blk-sim-in}
+use Rattle.tree.specs.Comm.{M, both, both', Comm, blk, blk-ret, blk-sim-in}
+use Rattle.tree.specs.Block.{tab}
+use Rattle.tree.specs.Lists.{map-const}
 use Rattle.block.specs.Bank.{units}
-use Rattle.block.specs.Iterate.{at}
+use Rattle.block.specs.Iterate.{at, after, given, sample_at, after_same, given-same, blk-is}
 use Rattle.proc.specs.declared.Mode.{Mode}
-use Rattle.proc.specs.declared.ModeOut.{ModeOut}
-use Rattle.proc.specs.Effects.{blend, mode_of}
-use Rattle.modal_block.specs.declared.Four.{Four}
+use Rattle.proc.specs.Effects.{mode_of}
 use Rattle.modal_block.specs.Modal.{mode_at, put_mode, mode_step, modes}
 use Rattle.modal_block.specs.Interchange.{over, bank_of, bank-more}
 
@@ -25,7 +27,7 @@ abbrev pub Item : Type 0
 Item = Float × Float
 
 unfoldable pub mode_act : ℕ → Item → M (List Float) Item
-mode_act k p cs = let o = mode_of (mode_at cs k) p.0 in ((p.0, p.1 ⊕ o.out), put_mode cs k o.mode)
+mode_act k p cs = let o = mode_of (mode_at cs k) p.0 in ((p.0, p.1 ⊕ o.0), put_mode cs k o.1)
 
 -- ---- a mode reads and writes only its own cells
 other : (cs : List Float) (i : ℕ) (m : Mode) (j : ℕ) → (j ≡ 5 * i + 3 → ⊥) → (j ≡ 5 * i + 4 → ⊥) → at (put_mode cs i m) j ≡ at cs j
@@ -67,18 +69,18 @@ unfolding mode_act
 swapped i k p q h cs =
     let a = mode_of (mode_at cs i) p.0 in
     let b = mode_of (mode_at cs k) q.0 in
-    let r = before cs i k a.mode h in
-    let s = behind cs i k b.mode h in
-    (λ t. (((p.0, p.1 ⊕ a.out), (q.0, q.1 ⊕ (mode_of (r t) q.0).out)), put_mode (put_mode cs i a.mode) k (mode_of (r t) q.0).mode))
-    ∙ (λ t. (((p.0, p.1 ⊕ a.out), (q.0, q.1 ⊕ b.out)), put-comm cs i k a.mode b.mode h t))
-    ∙ sym (λ t. (((p.0, p.1 ⊕ (mode_of (s t) p.0).out), (q.0, q.1 ⊕ b.out)), put_mode (put_mode cs k b.mode) i (mode_of (s t) p.0).mode))
+    let r = before cs i k a.1 h in
+    let s = behind cs i k b.1 h in
+    (λ t. (((p.0, p.1 ⊕ a.0), (q.0, q.1 ⊕ (mode_of (r t) q.0).0)), put_mode (put_mode cs i a.1) k (mode_of (r t) q.0).1))
+    ∙ (λ t. (((p.0, p.1 ⊕ a.0), (q.0, q.1 ⊕ b.0)), put-comm cs i k a.1 b.1 h t))
+    ∙ sym (λ t. (((p.0, p.1 ⊕ (mode_of (s t) p.0).0), (q.0, q.1 ⊕ b.0)), put_mode (put_mode cs k b.1) i (mode_of (s t) p.0).1))
 
 pub mode-comm : (i k : ℕ) (p q : Item) → i < k → Comm (mode_act i p) (mode_act k q)
 mode-comm i k p q h = record { swap = λ t cs. swapped i k p q h cs t }
 
 -- ---- a mode over some samples, beside the cells
 abbrev pub local_act : Item → M Mode Item
-local_act p m = let o = mode_of m p.0 in ((p.0, p.1 ⊕ o.out), o.mode)
+local_act p m = let o = mode_of m p.0 in ((p.0, p.1 ⊕ o.0), o.1)
 
 module _ (cs : List Float) (k : ℕ) (fits : 5 * k + 4 < length cs) where
   abbrev Coefs : Mode → Type 0
@@ -111,7 +113,7 @@ module _ (cs : List Float) (k : ℕ) (fits : 5 * k + 4 < length cs) where
 
   act-put : (p : Item) (m : Mode) → Coefs m → mode_act k p (put_mode cs k m) ≡ ((local_act p m).0, put_mode cs k (local_act p m).1)
   unfolding mode_act
-  act-put p m c = let r = mode-put m c in λ t. ((p.0, p.1 ⊕ (mode_of (r t) p.0).out), put-put m (mode_of (r t) p.0).mode t)
+  act-put p m c = let r = mode-put m c in λ t. ((p.0, p.1 ⊕ (mode_of (r t) p.0).0), put-put m (mode_of (r t) p.0).1 t)
 
   coefs-kept : (p : Item) (m : Mode) → Coefs m → Coefs (local_act p m).1
   unfolding mode_of
@@ -122,69 +124,131 @@ module _ (cs : List Float) (k : ℕ) (fits : 5 * k + 4 < length cs) where
       ap (over (mode_act k) ps) (sym put_self)
       ∙ blk-sim-in (λ (u : Unit {0}). u) Coefs (put_mode cs k) (λ u p. local_act p) (λ u p. mode_act k p) (λ u p m c. coefs-kept p m c) (λ u p m c. act-put p m c) tt ps (mode_at cs k) (refl, refl, refl)
 
--- ---- all the modes over four samples
-abbrev pub four_at : List Float → ℕ → Four
-four_at xs k = record { a = at xs k; b = at xs (k + 1); c = at xs (k + 2); d = at xs (k + 3) }
+-- ---- the items of some samples: no mode yet, and mode k after those before it
+abbrev pub items_of : List Float → List Item
+items_of xs = map (λ x. (x, single.zero)) xs
 
-unfoldable pub put_four : List Float → ℕ → Four → List Float
-put_four xs k y = set (set (set (set xs k y.a) (k + 1) y.b) (k + 2) y.c) (k + 3) y.d
+abbrev pub inputs : List Item → List Float
+inputs ps = map (λ (p : Item). p.0) ps
 
-abbrev pub blend_four : Float → Four → Four → Four
-blend_four mix x w = record { a = blend mix x.a w.a; b = blend mix x.b w.b; c = blend mix x.c w.c; d = blend mix x.d w.d }
+abbrev pub sums : List Item → List Float
+sums ps = map (λ (p : Item). p.1) ps
 
-abbrev pub items_of : Four → Four → List Item
-items_of x w = (x.a, w.a) ∷ (x.b, w.b) ∷ (x.c, w.c) ∷ (x.d, w.d) ∷ []
+abbrev pub so_far : List Float → List Float → ℕ → List Item × List Float
+so_far xs cs k = over (bank_of mode_act k) (items_of xs) cs
 
-abbrev zeros : Four
-zeros = record { a = single.zero; b = single.zero; c = single.zero; d = single.zero }
+-- n modes for sample k
+abbrev pub modes_step : ℕ → List Float → ℕ → List Float → Float × List Float
+modes_step n xs k cs = modes (at xs k) cs n
 
--- mode after mode, the first k of them
-abbrev pub four_so_far : Four → List Float → ℕ → List Item × List Float
-four_so_far x cs k = over (bank_of mode_act k) (items_of x zeros) cs
+-- mode k for sample j, added to its sum
+unfoldable pub mode_turn : List Float → List Float → ℕ → Mode → Float × Mode
+mode_turn xs ws j m = let o = mode_of m (at xs j) in (at ws j ⊕ o.0, o.1)
 
--- sample after sample
-unfoldable pub four_modes : ℕ → Four → List Float → Four × List Float
-four_modes n x cs =
-    let p = modes x.a cs n in
-    let q = modes x.b p.1 n in
-    let r = modes x.c q.1 n in
-    let s = modes x.d r.1 n in
-    (record { a = p.0; b = q.0; c = r.0; d = s.0 }, s.1)
+-- ---- the inputs stay
+bank-input : (n : ℕ) (p : Item) (cs : List Float) → (bank_of mode_act n p cs).0.0 ≡ p.0
+unfolding bank_of mode_act
+bank-input zero p cs = refl
+bank-input (suc n) p cs = bank-input n p cs
 
-pub four-start : (x : Four) (cs : List Float) → (items_of x zeros, cs) ≡ four_so_far x cs 0
-unfolding blk bank_of
-four-start x cs = refl
-
-pub four-turn : (x w : Four) (cs ds : List Float) (k : ℕ) → 5 * k + 4 < length ds → (items_of x w, ds) ≡ four_so_far x cs k → {o p q r : ModeOut}
-    → o ≡ mode_of (mode_at ds k) x.a → p ≡ mode_of o.mode x.b → q ≡ mode_of p.mode x.c → r ≡ mode_of q.mode x.d
-    → (items_of x (record { a = w.a ⊕ o.out; b = w.b ⊕ p.out; c = w.c ⊕ q.out; d = w.d ⊕ r.out }), put_mode ds k r.mode) ≡ four_so_far x cs (k + 1)
+over-inputs : (k : ℕ) (ps : List Item) (cs : List Float) → inputs (over (bank_of mode_act k) ps cs).0 ≡ inputs ps
 unfolding blk
-four-turn x w cs ds k fits e eo ep eq er =
-    let fo = eo in
-    let fp = ep ∙ ap (λ (o : ModeOut). mode_of o.mode x.b) fo in
-    let fq = eq ∙ ap (λ (o : ModeOut). mode_of o.mode x.c) fp in
-    let fr = er ∙ ap (λ (o : ModeOut). mode_of o.mode x.d) fq in
-    (λ t. (items_of x (record { a = w.a ⊕ (fo t).out; b = w.b ⊕ (fp t).out; c = w.c ⊕ (fq t).out; d = w.d ⊕ (fr t).out }), put_mode ds k (fr t).mode))
-    ∙ sym (over-local ds k fits (items_of x w))
-    ∙ ap (λ (s : List Item × List Float). over (mode_act k) s.0 s.1) e
-    ∙ sym (λ t. bank-more mode_act k (λ i p q h. mode-comm i k p q h) (items_of x zeros) t cs)
+over-inputs k [] cs = refl
+over-inputs k (p ∷ ps) cs = λ i. bank-input k p cs i ∷ over-inputs k ps (bank_of mode_act k p cs).1 i
 
+items-inputs : (xs : List Float) → inputs (items_of xs) ≡ xs
+items-inputs [] = refl
+items-inputs (x ∷ xs) = ap (λ (l : List Float). x ∷ l) (items-inputs xs)
+
+so_far-inputs : (xs cs : List Float) (k : ℕ) → inputs (so_far xs cs k).0 ≡ xs
+so_far-inputs xs cs k = over-inputs k (items_of xs) cs ∙ items-inputs xs
+
+-- ---- steps of which only a part of the sample is kept
+module _ {S A B : Type 0} (h : A → B) (f : ℕ → S → A × S) where
+  abbrev part : ℕ → S → B × S
+  part k s = (h (f k s).0, (f k s).1)
+
+  after-part : (s : S) (n : ℕ) → after part s n ≡ after f s n
+  unfolding after
+  after-part s zero = refl
+  after-part s (suc n) = ap (λ (u : S). (f n u).1) (after-part s n)
+
+  given-part : (s : S) (n : ℕ) → given part s n ≡ map h (given f s n)
+  unfolding given tab
+  given-part s zero = refl
+  given-part s (suc n) =
+      (λ i. given-part s n i ++ (h (f n (after-part s n i)).0 ∷ [])) ∙ sym (map-append h (tab n (sample_at f s)) ((f n (after f s n)).0 ∷ []))
+
+-- ---- the loop over the modes
+pub modes-start : (xs cs : List Float) → so_far xs cs 0 ≡ (items_of xs, cs)
+unfolding bank_of
+modes-start xs cs = λ i. blk-ret (λ (u : Unit {0}). u) tt (items_of xs) i cs
+
+zero-sums : (xs : List Float) → sums (items_of xs) ≡ map (λ x. single.zero) xs
+zero-sums [] = refl
+zero-sums (x ∷ xs) = ap (λ (l : List Float). single.zero ∷ l) (zero-sums xs)
+
+pub sums-start : (xs cs : List Float) → sums (so_far xs cs 0).0 ≡ replicate (length xs) single.zero
+sums-start xs cs = ap (λ (r : List Item × List Float). sums r.0) (modes-start xs cs) ∙ zero-sums xs ∙ map-const single.zero xs
+
+pub length-sums : (xs cs : List Float) (k : ℕ) → length (sums (so_far xs cs k).0) ≡ length xs
+length-sums xs cs k =
+    length-map (so_far xs cs k).0 (λ (p : Item). p.1) ∙ sym (length-map (so_far xs cs k).0 (λ (p : Item). p.0)) ∙ ap length (so_far-inputs xs cs k)
+
+module _ (xs cs : List Float) (k : ℕ) {ws ds : List Float} (fits : 5 * k + 4 < length ds)
+    (is-ws : ws ≡ sums (so_far xs cs k).0) (is-ds : ds ≡ (so_far xs cs k).1) where
+  abbrev ps : List Item
+  ps = (so_far xs cs k).0
+
+  abbrev local_step : ℕ → Mode → Item × Mode
+  local_step j m = local_act (get_or ps j (nan, nan)) m
+
+  turn-is : (j : ℕ) (m : Mode) → mode_turn xs ws j m ≡ ((local_step j m).0.1, (local_step j m).1)
+  unfolding mode_turn
+  turn-is j m =
+      let x : at xs j ≡ (get_or ps j (nan, nan)).0 = ap (λ (l : List Float). at l j) (sym (so_far-inputs xs cs k)) ∙ get_or-map (λ (p : Item). p.0) ps j (nan, nan) in
+      let w : at ws j ≡ (get_or ps j (nan, nan)).1 = ap (λ (l : List Float). at l j) is-ws ∙ get_or-map (λ (p : Item). p.1) ps j (nan, nan) in
+      λ i. (w i ⊕ (mode_of m (x i)).0, (mode_of m (x i)).1)
+
+  length-ps : length ps ≡ length ws
+  length-ps = sym (ap length is-ws ∙ length-map ps (λ (p : Item). p.1))
+
+  turned : so_far xs cs (k + 1) ≡ ((over local_act ps (mode_at ds k)).0, put_mode ds k (over local_act ps (mode_at ds k)).1)
+  turned =
+      (λ t. bank-more mode_act k (λ i p q h. mode-comm i k p q h) (items_of xs) t cs)
+      ∙ ap (over (mode_act k) ps) (sym is-ds)
+      ∙ over-local ds k fits ps
+
+  local-is : (m : Mode) → over local_act ps m ≡ (given local_step m (length ws), after local_step m (length ws))
+  local-is m = blk-is (λ (u : Unit {0}). u) (λ u p. local_act p) (nan, nan) tt ps m ∙ ap (λ n. (given local_step m n, after local_step m n)) length-ps
+
+  pub modes-turn : {vs : List Float} {m : Mode} → vs ≡ given (mode_turn xs ws) (mode_at ds k) (length ws) → m ≡ after (mode_turn xs ws) (mode_at ds k) (length ws)
+      → (vs ≡ sums (so_far xs cs (k + 1)).0) × (put_mode ds k m ≡ (so_far xs cs (k + 1)).1)
+  modes-turn {vs} {m} p q =
+      let m0 = mode_at ds k in
+      let n = length ws in
+      let same = λ (j : ℕ) (h : j < n) (u : Mode). turn-is j u in
+      let v : vs ≡ sums (over local_act ps m0).0 =
+      p ∙ given-same (mode_turn xs ws) (part (λ (p : Item). p.1) local_step) m0 n same ∙ given-part (λ (p : Item). p.1) local_step m0 n ∙ sym (ap (λ (r : List Item × Mode). sums r.0) (local-is m0)) in
+      let w : m ≡ (over local_act ps m0).1 =
+      q ∙ after_same (mode_turn xs ws) (part (λ (p : Item). p.1) local_step) m0 n same ∙ after-part (λ (p : Item). p.1) local_step m0 n ∙ sym (ap (λ (r : List Item × Mode). r.1) (local-is m0)) in
+      (v ∙ sym (ap (λ (r : List Item × List Float). sums r.0) turned), ap (put_mode ds k) w ∙ sym (ap (λ (r : List Item × List Float). r.1) turned))
+
+-- ---- n modes are n modes for each sample
 bank-modes : (n : ℕ) (x w : Float) (cs : List Float) → let r = units (mode_step x) (w, cs) n in bank_of mode_act n (x, w) cs ≡ ((x, r.0), r.1)
 unfolding bank_of units mode_act mode_step
 bank-modes zero x w cs = refl
 bank-modes (suc n) x w cs = ap (λ (s : Item × List Float). mode_act n s.0 s.1) (bank-modes n x w cs)
 
-bank-from : (n : ℕ) (x : Float) {cs ds : List Float} → cs ≡ ds → let r = modes x ds n in bank_of mode_act n (x, single.zero) cs ≡ ((x, r.0), r.1)
-bank-from n x {ds} e = ap (bank_of mode_act n (x, single.zero)) e ∙ bank-modes n x single.zero ds
+sums-end : (n : ℕ) (xs cs : List Float) → (sums (so_far xs cs n).0, (so_far xs cs n).1) ≡ over (λ x ds. modes x ds n) xs cs
+unfolding blk
+sums-end n [] cs = refl
+sums-end n (x ∷ xs) cs =
+    let r = modes x cs n in
+    ap (λ (b : Item × List Float). (b.0.1 ∷ sums (so_far xs b.1 n).0, (so_far xs b.1 n).1)) (bank-modes n x single.zero cs)
+    ∙ ap (λ (q : List Float × List Float). (r.0 ∷ q.0, q.1)) (sums-end n xs r.1)
 
-unfoldable sums : List Item × List Float → Four × List Float
-sums s = let w : ℕ → Float = λ k. (get_or s.0 k (nan, nan)).1 in (record { a = w 0; b = w 1; c = w 2; d = w 3 }, s.1)
-
-pub four-end : (n : ℕ) (x w : Four) (cs ds : List Float) → (items_of x w, ds) ≡ four_so_far x cs n → (w, ds) ≡ four_modes n x cs
-unfolding blk four_modes sums
-four-end n x w cs ds e =
-    let p = bank-modes n x.a single.zero cs in
-    let q = bank-from n x.b (λ t. (p t).1) in
-    let r = bank-from n x.c (λ t. (q t).1) in
-    let s = bank-from n x.d (λ t. (r t).1) in
-    ap sums e ∙ (λ t. (record { a = (p t).0.1; b = (q t).0.1; c = (r t).0.1; d = (s t).0.1 }, (s t).1))
+pub modes-end : (n : ℕ) (xs cs : List Float) → (sums (so_far xs cs n).0 ≡ given (modes_step n xs) cs (length xs)) × ((so_far xs cs n).1 ≡ after (modes_step n xs) cs (length xs))
+modes-end n xs cs =
+    let e = sums-end n xs cs ∙ blk-is (λ (u : Unit {0}). u) (λ u x ds. modes x ds n) nan tt xs cs in
+    (ap (λ (r : List Float × List Float). r.0) e, ap (λ (r : List Float × List Float). r.1) e)

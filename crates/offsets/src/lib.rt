@@ -29,8 +29,7 @@ fn reverb(rate: u32) -> u64
     requires { rate ≤ 192000 }
     ensures { (result ≡ reverb_cells rate) × (result ≤ 48632) }
 {
-    let mut lens = [0u64; 10];
-    lines::reverb_lens(rate, &mut lens);
+    let lens = lines::reverb_lens(rate);
     let combs = lens[0] + lens[1] + lens[2] + lens[3] + lens[4] + lens[5];
     combs + lens[6] + lens[7] + lens[8] + lens[9] + 6
 }
@@ -153,8 +152,7 @@ pub fn offsets(
     let mut c = 0usize;
     let mut r = 0usize;
     let mut s = 0usize;
-    let mut i = 0usize;
-    while i < count {
+    for i in 0..count {
         places[i] = c;
         words[i] = r;
         blocks[i] = s;
@@ -164,11 +162,10 @@ pub fn offsets(
             r += registers_of(k) as usize;
             s += scratch_of(k) as usize;
         }
-        i += 1;
     }
-    places[i] = c;
-    words[i] = r;
-    blocks[i] = s;
+    places[count] = c;
+    words[count] = r;
+    blocks[count] = s;
     Needs {
         cells: c as u64,
         registers: r as u64,

@@ -9,6 +9,7 @@ use dsl::Shape;
 const TAU: f32 = 6.2831855;
 
 // PolyBLEP residual: what suppresses the aliasing of a step at a phase edge. t is the phase, dt its increment per sample.
+#[tactic(auto, unfolding(crate::specs::Osc::poly_blep))]
 pub fn poly_blep(t: f32, dt: f32) -> f32
     ensures { result ≡ poly_blep t dt }
 {
@@ -27,6 +28,7 @@ pub fn poly_blep(t: f32, dt: f32) -> f32
 }
 
 // The shape's value, in [-1, 1] for a phase in [0, 1).
+#[tactic(auto, unfolding(crate::specs::Osc::osc_of))]
 pub fn osc(shape: Shape, phase: f32) -> f32
     ensures { result ≡ osc_of shape phase }
 {

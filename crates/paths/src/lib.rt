@@ -13,14 +13,12 @@ fn places(sheet: &[u8], count: usize, firsts: &[usize], nexts: &[usize], to: &mu
     ensures { Table (place sheet.now) count to.new }
 {
     to[0] = 0;
-    let mut i = 0usize;
-    while i < count {
+    for i in 0..count {
         let f = firsts[i];
         to[f] = 0;
         let p = to[i];
         let n = nexts[i];
         to[n] = p + 1;
-        i += 1;
     }
     to[0] = 0;
 }
@@ -31,12 +29,10 @@ fn down(sheet: &[u8], count: usize, owned: &[usize], placed: &[u64], to: &mut [u
     ensures { Table (path sheet.now) count to.new }
 {
     to[0] = sheet::path(sheet);
-    let mut j = 1usize;
-    while j < count {
+    for j in 1..count {
         let o = owned[j];
         let w = rng::node_path(to[o], placed[j]);
         to[j] = w;
-        j += 1;
     }
 }
 

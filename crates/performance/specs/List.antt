@@ -1,10 +1,10 @@
 -- A list of calls as it is lent, and what a function that makes them with the player's own calls leaves: what the sample machine gives for the list.
-use Rattle.std.specs.Prelude.{◌≡◌, refl, Bool, true, false, cond, ◌&&◌, List, [], ◌∷◌, ◌++◌, ℕ, zero, suc, ◌+◌, ◌-◌, ◌≤◌, ◌<◌, eqb, leb, length, get_or, set, take, drop, Float}
+use Rattle.std.specs.Prelude.{◌≡◌, refl, Bool, true, false, cond, ◌&&◌, List, [], ◌∷◌, ◌++◌, ℕ, zero, suc, ◌+◌, ◌-◌, ◌≤◌, ◌<◌, eqb, leb, length, get_or, set, take, drop, Float, Option, Some, None, is_some}
 use Rattle.std.proofs.Common.{sym, ap, ap₂, ◌∙◌, append_assoc, append-nil, add-one, arith, length-set, length-drop, length-append, drop_of_length-le, take-append-drop, length-take-le, take_all, take_at, drop_at, drop-drop, take-suc-set, eqb-true, leb-true, le-leb}
 use Rattle.std.proofs.Math.Decide.{dec_le}
 use Rattle.std.proofs.Math.Seq.{take-append-add, drop-append-add}
 use Rattle.std.proofs.lemmas.List.{drop-append-le}
-use Rattle.std.specs.Float.{nan}
+use Rattle.std.proofs.lemmas.Option.{none-some, same_Some}
 use Rattle.std.proofs.lemmas.Bool.{eqb-false, lt-leb}
 use Rattle.tree.specs.Comm.{M, ret, bind, bind-ap, bind-ap-left}
 use Rattle.tree.specs.Block.{tab}
@@ -15,10 +15,21 @@ use Rattle.sheet.specs.Laws.{both, never, sum-suc}
 use Rattle.machine.specs.Machine.{State, state, room_check, fill_check, fill_of, cutoff_of, controlled, Call, fill, pitch, bend, cutoff, call, machine}
 use Rattle.machine.proofs.Samples.{samples-length}
 use Rattle.calls.specs.Calls.{Fills, Cuts}
+use Rattle.performance.specs.declared.Call.{Call as Asked}
+use Rattle.performance.specs.declared.Call.TheVariants.{Fill, Pitch, Bend, Cutoff}
 
--- a call of a list, from its kind and numbers
-unfoldable pub call_of : ℕ → Float → Float → ℕ → Call
-call_of kind x g n = cond (eqb kind 0) (fill n) (cond (eqb kind 1) (pitch x g) (cond (eqb kind 2) (bend x) (cutoff x)))
+-- the machine's call for a call of the list, and how many samples it fills where it is accepted
+abbrev pub machine_call : Asked → Call
+machine_call (Fill n) = fill n
+machine_call (Pitch x g) = pitch x g
+machine_call (Bend x) = bend x
+machine_call (Cutoff x) = cutoff x
+
+abbrev pub length_of : Asked → ℕ
+length_of (Fill n) = n
+length_of (Pitch x g) = 0
+length_of (Bend x) = 0
+length_of (Cutoff x) = 0
 
 -- what the call answers, makes and leaves: its samples stand in front of what out held
 pub record Called (s : List ℕ) (k : Call) (c : Controls) (xs cs : List Float) (rs : List ℕ) (zs : List Float) (a : ℕ) (r : Controls) (ys ds : List Float) (ss : List ℕ) (ws : List Float) : Type 0 where
@@ -67,9 +78,9 @@ called-cutoff s x c xs cs rs zs a ds f = go (eqb a 0) refl
         let q : eqb (room_check s (length cs) (length rs) (length zs)) 0 ≡ false = rw (← f.answer) e in
         record { answer = rw q f.answer; left = rw (q, f.cells, e); out = rw q }
 
--- how many samples a call makes
-unfoldable pub took_of : ℕ → ℕ → ℕ → ℕ
-took_of kind a n = cond (eqb kind 0) (cond (eqb a 0) n 0) 0
+-- how many samples a call of n makes
+abbrev pub took_of : ℕ → ℕ → ℕ
+took_of a n = cond (eqb a 0) n 0
 
 fill-took : (s : List ℕ) (n : ℕ) (p : State) → length (fill_of s n p).0.1 ≡ cond (eqb (fill_of s n p).0.0 0) n 0
 unfolding fill_of
@@ -87,15 +98,16 @@ cutoff-took s x p = go (eqb (room_check s (length p.cells) (length p.registers) 
     go true e = rw e
     go false e = rw e
 
-pub call-took : (s : List ℕ) (kind : ℕ) (x g : Float) (n : ℕ) (p : State) → length (call s (call_of kind x g n) p).0.1 ≡ took_of kind (call s (call_of kind x g n) p).0.0 n
-unfolding call_of took_of call
-call-took s kind x g n p = go (eqb kind 0) (eqb kind 1) (eqb kind 2)
-  where
-    go : (a b c : Bool) → length (call s (cond a (fill n) (cond b (pitch x g) (cond c (bend x) (cutoff x)))) p).0.1 ≡ cond a (cond (eqb (call s (cond a (fill n) (cond b (pitch x g) (cond c (bend x) (cutoff x)))) p).0.0 0) n 0) 0
-    go true b c = fill-took s n p
-    go false true c = refl
-    go false false true = refl
-    go false false false = cutoff-took s x p
+none-took : (b : Bool) → ◌≡◌ {A = ℕ} 0 (cond b 0 0)
+none-took true = refl
+none-took false = refl
+
+pub call-took : (s : List ℕ) (k : Asked) (p : State) → length (call s (machine_call k) p).0.1 ≡ took_of (call s (machine_call k) p).0.0 (length_of k)
+unfolding call
+call-took s (Fill n) p = fill-took s n p
+call-took s (Pitch x g) p = refl
+call-took s (Bend x) p = refl
+call-took s (Cutoff x) p = cutoff-took s x p ∙ none-took (eqb (cutoff_of s x p).0.0 0)
 
 -- one call more
 pub machine-snoc : (s : List ℕ) (ks : List Call) (k : Call) → machine s (ks ++ (k ∷ [])) ≡ bind (machine s ks) (λ a. bind (call s k) (λ b. ret (a.0 ++ (b.0 ∷ []), a.1 ++ b.1)))
@@ -104,12 +116,12 @@ machine-snoc s [] k = bind-ap (call s k) (λ b. ap (λ (l : List Float). ret ((b
 machine-snoc s (j ∷ ks) k = bind-ap (call s j) (λ a. bind-ap-left (machine-snoc s ks k) (λ b. ret (a.0 ∷ b.0, a.1 ++ b.1))
     ∙ bind-ap (machine s ks) (λ b. bind-ap (call s k) (λ d. ap (λ (l : List Float). ret (a.0 ∷ (b.0 ++ (d.0 ∷ [])), l)) (sym (append_assoc a.1 b.1 d.1)))))
 
--- a list of calls as it is lent: a kind, two numbers and a length for each
-abbrev pub call_at : List ℕ → List Float → List Float → List ℕ → ℕ → Call
-call_at kinds xs gs lens i = call_of (get_or kinds i 0) (get_or xs i nan) (get_or gs i nan) (get_or lens i 0)
+-- the calls of a list, and their lengths
+abbrev pub call_at : List Asked → ℕ → Call
+call_at ks i = machine_call (get_or ks i (Fill 0))
 
-abbrev pub length_at : List ℕ → ℕ → ℕ
-length_at lens i = get_or lens i 0
+abbrev pub length_at : List Asked → ℕ → ℕ
+length_at ks i = length_of (get_or ks i (Fill 0))
 
 -- what a whole list of calls answers, makes and leaves: the machine's answers, samples and numbers
 pub record Plays (s : List ℕ) (ks : List Call) (c : Controls) (xs cs : List Float) (rs : List ℕ) (zs : List Float) (r : Controls) (bs : List ℕ) (ys ds : List Float) (ss : List ℕ) (ws : List Float) : Type 0 where
@@ -117,15 +129,15 @@ pub record Plays (s : List ℕ) (ks : List Call) (c : Controls) (xs cs : List Fl
   pub samples : ys ≡ (machine s ks (state c cs rs zs)).0.1 ++ drop (length (machine s ks (state c cs rs zs)).0.1) xs
   pub left : state r ds ss ws ≡ (machine s ks (state c cs rs zs)).1
 
--- the slices fit, by how long they are: a kind, two numbers, a length and an answer for each call, and out has room for all the lengths
-unfoldable pub fitting : ℕ → ℕ → ℕ → List ℕ → ℕ → ℕ → Bool
-fitting kinds xs gs lens answers out = eqb kinds answers && eqb xs answers && eqb gs answers && eqb (length lens) answers && leb (sum (length_at lens) (length lens)) out
+-- there is an answer for each call, and out has room for all the fills
+unfoldable pub fitting : List Asked → ℕ → ℕ → Bool
+fitting ks answers out = eqb (length ks) answers && leb (sum (length_at ks) (length ks)) out
 
--- a list of calls that is made where its slices fit, and otherwise leaves everything as it was
-pub record Performed (fit : Bool) (s : List ℕ) (ks : List Call) (c : Controls) (es : List ℕ) (xs cs : List Float) (rs : List ℕ) (zs : List Float) (made : Bool) (r : Controls) (bs : List ℕ) (ys ds : List Float) (ss : List ℕ) (ws : List Float) : Type 0 where
-  pub made_is : made ≡ fit
-  pub plays : made ≡ true → Plays s ks c xs cs rs zs r bs ys ds ss ws
-  pub kept : made ≡ false → (r ≡ c) × (bs ≡ es) × (ys ≡ xs) × (ds ≡ cs) × (ss ≡ rs) × (ws ≡ zs)
+-- a list of calls that is made where it fits, and otherwise leaves everything as it was
+pub record Performed (fit : Bool) (s : List ℕ) (ks : List Call) (c : Controls) (es : List ℕ) (xs cs : List Float) (rs : List ℕ) (zs : List Float) (o : Option Controls) (bs : List ℕ) (ys ds : List Float) (ss : List ℕ) (ws : List Float) : Type 0 where
+  pub made_is : is_some o ≡ fit
+  pub plays : (r : Controls) → o ≡ Some r → Plays s ks c xs cs rs zs r bs ys ds ss ws
+  pub kept : o ≡ None → (bs ≡ es) × (ys ≡ xs) × (ds ≡ cs) × (ss ≡ rs) × (ws ≡ zs)
 
 pub record Playing (s : List ℕ) (f : ℕ → Call) (n : ℕ → ℕ) (c : Controls) (xs cs : List Float) (rs : List ℕ) (zs : List Float) (bs : List ℕ) (r : Controls) (ys ds : List Float) (ss : List ℕ) (ws : List Float) (es : List ℕ) (d k : ℕ) : Type 0 where
   pub bound : k ≤ length bs
@@ -206,17 +218,13 @@ sum-le f i (suc j) h = elim (dec_le i j) [ yes g ↦ omega (arith, sum-le f i j 
 pub play-room : (n : ℕ → ℕ) (d k m l : ℕ) → d ≤ sum n k → k < m → sum n m ≤ l → d + n k ≤ l
 play-room n d k m l h g r = omega (arith, sum-suc n k, sum-le n (k + 1) m (omega arith))
 
--- ---- whether the slices fit
-pub fitting-told : (kinds xs gs : ℕ) (lens : List ℕ) (answers out : ℕ) → fitting kinds xs gs lens answers out ≡ true
-    → (kinds ≡ answers) × (xs ≡ answers) × (gs ≡ answers) × (length lens ≡ answers) × (sum (length_at lens) answers ≤ out)
+-- ---- whether the calls fit
+pub fitting-told : (ks : List Asked) (answers out : ℕ) → fitting ks answers out ≡ true → (length ks ≡ answers) × (sum (length_at ks) answers ≤ out)
 unfolding fitting
-fitting-told kinds xs gs lens answers out e =
+fitting-told ks answers out e =
     let p = both _ _ e in
-    let q = both _ _ p.0 in
-    let t = both _ _ q.0 in
-    let u = both _ _ t.0 in
-    let l = eqb-true _ _ q.1 in
-    (eqb-true _ _ u.0, eqb-true _ _ u.1, eqb-true _ _ t.1, l, rw (← l) (leb-true _ _ p.1))
+    let l = eqb-true _ _ p.0 in
+    (l, rw (← l) (leb-true _ _ p.1))
 
 pub fit_none : (f : ℕ → ℕ) (n : ℕ) → sum f 0 + n ≡ n
 unfolding sum
@@ -233,8 +241,12 @@ fit_all f k m left n e h = sym (le-leb (sum f m) n (rw (← h) (omega arith)))
 
 -- the calls are made, or not
 pub performed : (s : List ℕ) (ks : List Call) (c : Controls) (es : List ℕ) (xs cs : List Float) (rs : List ℕ) (zs : List Float) (r : Controls) (bs : List ℕ) (ys ds : List Float) (ss : List ℕ) (ws : List Float) (fit : Bool)
-    → fit ≡ true → Plays s ks c xs cs rs zs r bs ys ds ss ws → Performed fit s ks c es xs cs rs zs true r bs ys ds ss ws
-performed s ks c es xs cs rs zs r bs ys ds ss ws fit e p = record { made_is = sym e; plays = λ q. p; kept = λ q. never q }
+    → fit ≡ true → Plays s ks c xs cs rs zs r bs ys ds ss ws → Performed fit s ks c es xs cs rs zs (Some r) bs ys ds ss ws
+performed s ks c es xs cs rs zs r bs ys ds ss ws fit e p = record {
+  made_is = sym e;
+  plays = λ q h. rw (← same_Some r q h) p;
+  kept = λ h. absurd (none-some r (sym h));
+}
 
-pub not-performed : (s : List ℕ) (ks : List Call) (c : Controls) (es : List ℕ) (xs cs : List Float) (rs : List ℕ) (zs : List Float) (fit : Bool) → fit ≡ false → Performed fit s ks c es xs cs rs zs false c es xs cs rs zs
-not-performed s ks c es xs cs rs zs fit e = record { made_is = sym e; plays = λ q. never (sym q); kept = λ q. (refl, refl, refl, refl, refl, refl) }
+pub not-performed : (s : List ℕ) (ks : List Call) (c : Controls) (es : List ℕ) (xs cs : List Float) (rs : List ℕ) (zs : List Float) (fit : Bool) → fit ≡ false → Performed fit s ks c es xs cs rs zs None es xs cs rs zs
+not-performed s ks c es xs cs rs zs fit e = record { made_is = sym e; plays = λ q h. absurd (none-some q h); kept = λ h. (refl, refl, refl, refl, refl) }

@@ -3,172 +3,136 @@
 
 ghost use Rattle.std.specs.Prelude.{◌≡◌, leb, ◌≤◌, length};
 ghost use Rattle.tree.specs.Block.{tab};
+ghost use Rattle.refusal.specs.Refusal.{answer_of};
 ghost use Rattle.sheet.specs.Checks.{sum};
-ghost use Rattle.performance.specs.List.{call_of, Called, took_of, call_at, length_at, fitting, Plays, Performed};
+ghost use Rattle.calls.specs.Calls.{controls_of};
+ghost use Rattle.performance.specs.List.{machine_call, length_of, Called, took_of, call_at, length_at, fitting, Plays, Performed};
 
-// The kind of a pitch move, as `call_of` numbers the calls.
-const PITCH: u8 = 1;
+use control::Controls;
+use refusal::Refusal;
 
-// One call: kind 0 is a fill of out, 1 a pitch move to x by g, 2 a bend move to x, any other a cutoff move to x.
+// A call: a fill of so many samples, or a move.
+#[derive(Clone, Copy, Debug)]
+pub enum Call {
+    Fill(usize),
+    Pitch { scale: f32, coefficient: f32 },
+    Bend(f32),
+    Cutoff(f32),
+}
+
+impl Call {
+    // How many samples the call fills where it is accepted.
+    pub fn length(self) -> usize
+        ensures { result ≡ length_of self }
+    {
+        match self {
+            Call::Fill(n) => n,
+            Call::Pitch { .. } | Call::Bend(_) | Call::Cutoff(_) => 0,
+        }
+    }
+}
+
+// One call; a fill has out for its samples.
 fn one_call(
     sheet: &[u8],
-    kind: u8,
-    x: f32,
-    g: f32,
-    c: control::Controls,
+    call: Call,
+    c: Controls,
     out: &mut [f32],
     cells: &mut [f32],
     regs: &mut [u64],
     scr: &mut [f32],
-) -> calls::Answer
-    ensures { Called sheet.now (call_of kind x g (length out.old)) c out.old cells.old regs.old scr.old result.answer result.controls out.new cells.new regs.new scr.new }
+) -> Result<Controls, Refusal>
+    requires { length_of call ≡ length out.old }
+    ensures { Called sheet.now (machine_call call) c out.old cells.old regs.old scr.old (answer_of result) (controls_of c result) out.new cells.new regs.new scr.new }
 {
-    if kind == 0 {
-        return player::fill(sheet, c, out, cells, regs, scr);
-    }
-    if kind == PITCH {
-        return calls::Answer {
-            answer: 0,
-            controls: player::pitch(c, x, g),
-        };
-    }
-    if kind == 2 {
-        return calls::Answer {
-            answer: 0,
-            controls: player::bend(c, x),
-        };
-    }
-    calls::Answer {
-        answer: player::cutoff(sheet, x, cells, regs, scr),
-        controls: c,
-    }
-}
-
-// How many samples the call made.
-fn took(kind: u8, answer: u8, n: usize) -> usize
-    ensures { (result ≡ took_of kind answer n) × (result ≤ n) }
-{
-    if kind == 0 {
-        if answer == 0 {
-            return n;
+    match call {
+        Call::Fill(_) => player::fill(sheet, c, out, cells, regs, scr),
+        Call::Pitch { scale, coefficient } => Ok(player::pitch(c, scale, coefficient)),
+        Call::Bend(x) => Ok(player::bend(c, x)),
+        Call::Cutoff(x) => {
+            player::cutoff(sheet, x, cells, regs, scr)?;
+            Ok(c)
         }
     }
-    0
 }
 
-// The calls of slices that fit, one after another.
+// The controls after a call that began with c.
+fn after(c: Controls, outcome: Result<Controls, Refusal>) -> Controls
+    ensures { result ≡ controls_of c outcome }
+{
+    match outcome {
+        Ok(controls) => controls,
+        Err(_) => c,
+    }
+}
+
+// How many samples a call of n made.
+fn took(answer: u8, n: usize) -> usize
+    ensures { (result ≡ took_of answer n) × (result ≤ n) }
+{
+    if answer == 0 { n } else { 0 }
+}
+
+// The calls that fit, one after another.
 fn perform(
     sheet: &[u8],
-    kinds: &[u8],
-    xs: &[f32],
-    gs: &[f32],
-    lens: &[usize],
-    first: control::Controls,
+    calls: &[Call],
+    first: Controls,
     answers: &mut [u8],
     out: &mut [f32],
     cells: &mut [f32],
     regs: &mut [u64],
     scr: &mut [f32],
-) -> control::Controls
-    requires { (length kinds.now ≡ length answers.old) × (length xs.now ≡ length answers.old) × (length gs.now ≡ length answers.old) × (length lens.now ≡ length answers.old) × (sum (length_at lens.now) (length answers.old) ≤ length out.old) }
-    ensures { Plays sheet.now (tab (length kinds.now) (call_at kinds.now xs.now gs.now lens.now)) first out.old cells.old regs.old scr.old result answers.new out.new cells.new regs.new scr.new }
+) -> Controls
+    requires { (length calls.now ≡ length answers.old) × (sum (length_at calls.now) (length answers.old) ≤ length out.old) }
+    ensures { Plays sheet.now (tab (length calls.now) (call_at calls.now)) first out.old cells.old regs.old scr.old result answers.new out.new cells.new regs.new scr.new }
 {
     let mut c = first;
     let mut d: usize = 0;
-    let mut k: usize = 0;
-    while k < answers.len() {
-        let next = k + 1;
-        let n = lens[k];
+    for k in 0..answers.len() {
+        let call = calls[k];
+        let n = call.length();
         let e = d + n;
-        let r = one_call(
-            sheet,
-            kinds[k],
-            xs[k],
-            gs[k],
-            c,
-            &mut out[d..e],
-            cells,
-            regs,
-            scr,
-        );
-        let a = r.answer;
-        c = r.controls;
+        let r = one_call(sheet, call, c, &mut out[d..e], cells, regs, scr);
+        let a = refusal::answer(r);
+        c = after(c, r);
         answers[k] = a;
-        d = d + took(kinds[k], a, n);
-        k = next;
+        d += took(a, n);
     }
     c
 }
 
 // Whether n is at least the sum of the lengths. What is left of n is counted, so that no sum overflows.
-fn lengths_fit(lens: &[usize], n: usize) -> bool
-    ensures { result ≡ leb (sum (length_at lens.now) (length lens.now)) n }
+fn lengths_fit(calls: &[Call], n: usize) -> bool
+    ensures { result ≡ leb (sum (length_at calls.now) (length calls.now)) n }
 {
     let mut left = n;
-    let mut k: usize = 0;
-    while k < lens.len() {
-        let x = lens[k];
+    for k in 0..calls.len() {
+        let x = calls[k].length();
         if left < x {
             return false;
         }
-        left = left - x;
-        k += 1;
+        left -= x;
     }
     true
 }
 
-// Whether the slices fit, by their lengths.
-fn fits(kinds: usize, xs: usize, gs: usize, lens: &[usize], answers: usize, out: usize) -> bool
-    ensures { result ≡ fitting kinds xs gs lens.now answers out }
-{
-    (kinds == answers)
-        & (xs == answers)
-        & (gs == answers)
-        & (lens.len() == answers)
-        & lengths_fit(lens, out)
-}
-
-// Whether the calls were made, and the controls after them.
-#[derive(Clone, Copy)]
-pub struct Performance {
-    pub made: bool,
-    pub controls: control::Controls,
-}
-
-// The calls have their kinds, their two numbers and their lengths in slices of their own; each answer is written, and the samples of the accepted
-// fills stand in out, one after another. Nothing is written where the slices do not fit.
+// The controls after the calls. Each answer is written, as the number that the machine gives; the samples of the accepted fills stand in out, one
+// after another. Nothing is written where there are more or fewer answers than calls, or where the fills do not fit in out.
 pub fn play(
     sheet: &[u8],
-    kinds: &[u8],
-    xs: &[f32],
-    gs: &[f32],
-    lens: &[usize],
-    first: control::Controls,
+    calls: &[Call],
+    first: Controls,
     answers: &mut [u8],
     out: &mut [f32],
     cells: &mut [f32],
     regs: &mut [u64],
     scr: &mut [f32],
-) -> Performance
-    ensures { Performed (fitting (length kinds.now) (length xs.now) (length gs.now) lens.now (length answers.old) (length out.old)) sheet.now (tab (length kinds.now) (call_at kinds.now xs.now gs.now lens.now)) first answers.old out.old cells.old regs.old scr.old result.made result.controls answers.new out.new cells.new regs.new scr.new }
+) -> Option<Controls>
+    ensures { Performed (fitting calls.now (length answers.old) (length out.old)) sheet.now (tab (length calls.now) (call_at calls.now)) first answers.old out.old cells.old regs.old scr.old result answers.new out.new cells.new regs.new scr.new }
 {
-    if fits(
-        kinds.len(),
-        xs.len(),
-        gs.len(),
-        lens,
-        answers.len(),
-        out.len(),
-    ) {
-        return Performance {
-            made: true,
-            controls: perform(
-                sheet, kinds, xs, gs, lens, first, answers, out, cells, regs, scr,
-            ),
-        };
+    if (calls.len() == answers.len()) & lengths_fit(calls, out.len()) {
+        return Some(perform(sheet, calls, first, answers, out, cells, regs, scr));
     }
-    Performance {
-        made: false,
-        controls: first,
-    }
+    None
 }

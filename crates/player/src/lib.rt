@@ -1,189 +1,93 @@
-// The player's calls. Each takes whatever bytes, numbers and lent memory it is given. A refusal answers its number, returns the controls as they
-// came and writes nothing lent.
+// The player's calls. Each takes whatever bytes, numbers and lent memory it is given. A refusal says why, leaves the controls as they came and writes
+// nothing lent.
 #![tactic(auto)]
 
-ghost use Rattle.std.specs.Prelude.{◌≡◌, ◌+◌, ◌≤◌, ◌<◌, length};
+ghost use Rattle.std.specs.Prelude.{◌≡◌, ◌≤◌, ◌<◌, length};
 ghost use Rattle.control.specs.Moves.{pitch_moved, bend_moved};
+ghost use Rattle.refusal.specs.Refusal.{answer_of};
 ghost use Rattle.sheet.specs.Links.{Rows};
-ghost use Rattle.tables.specs.Answer.{needed_of};
-ghost use Rattle.calls.specs.Calls.{Fills, Cuts, Builds};
+ghost use Rattle.tables.specs.Answer.{needed_by, needed_of};
+ghost use Rattle.calls.specs.Calls.{controls_of, Fills, Cuts, Builds};
 
-// The refusal's number, or 0, and how much memory the sheet needs to be lent.
-pub fn needs(sheet: &[u8]) -> tables::Needed
-    ensures { result ≡ needed_of sheet.now }
+use control::Controls;
+use offsets::Needs;
+use refusal::Refusal;
+use tables::Tables;
+
+// A sheet of at most 24 records has at most this many bytes. To zero tables for 256 records would take longer than a short fill of its voice.
+const SHORT: usize = 984;
+
+// How much memory the sheet needs to be lent.
+pub fn needs(sheet: &[u8]) -> Result<Needs, Refusal>
+    ensures { needed_by result ≡ needed_of sheet.now }
 {
-    let mut kinds = [0u8; 256];
-    let mut firsts = [0usize; 256];
-    let mut nexts = [0usize; 256];
-    let mut lasts = [0u8; 256];
-    let mut acts = [0u8; 256];
-    let mut begins = [0usize; 256];
-    let mut afters = [0usize; 256];
-    let mut places = [0usize; 257];
-    let mut words = [0usize; 257];
-    let mut blocks = [0usize; 257];
-    let m = tables::measure(
-        sheet,
-        &mut kinds,
-        &mut firsts,
-        &mut nexts,
-        &mut lasts,
-        &mut acts,
-        &mut begins,
-        &mut afters,
-        &mut places,
-        &mut words,
-        &mut blocks,
-    );
-    m.needed
+    let mut t = Tables::<256, 257>::new();
+    let m = tables::measure(sheet, &mut t)?;
+    Ok(m.needs)
 }
 
 // ---- fill
 
-// The checks by lent tables, and the samples.
-fn fill_by(
+// The checks by lent tables, and the samples. The tables are made by the callers: of a struct as long as N and M say, a function that is proved for every
+// N would owe that it fits in memory.
+fn fill_by<const N: usize, const M: usize>(
+    t: &mut Tables<N, M>,
     sheet: &[u8],
-    c: control::Controls,
+    c: Controls,
     out: &mut [f32],
     cells: &mut [f32],
     regs: &mut [u64],
     scr: &mut [f32],
-    kinds: &mut [u8],
-    firsts: &mut [usize],
-    nexts: &mut [usize],
-    lasts: &mut [u8],
-    acts: &mut [u8],
-    begins: &mut [usize],
-    afters: &mut [usize],
-    places: &mut [usize],
-    words: &mut [usize],
-    blocks: &mut [usize],
-) -> calls::Answer
-    requires { Rows sheet.now (length kinds.old) × (length kinds.old ≤ length firsts.old) × (length kinds.old ≤ length nexts.old) × (length kinds.old ≤ length lasts.old) × (length kinds.old ≤ length acts.old) × (length kinds.old ≤ length begins.old) × (length kinds.old ≤ length afters.old) × (length kinds.old < length places.old) × (length kinds.old < length words.old) × (length kinds.old < length blocks.old) }
-    ensures { Fills sheet.now c out.old cells.old regs.old scr.old result.answer result.controls out.new cells.new regs.new scr.new }
+) -> Result<Controls, Refusal>
+    requires { Rows sheet.now N × (N < M) }
+    ensures { Fills sheet.now c out.old cells.old regs.old scr.old (answer_of result) (controls_of c result) out.new cells.new regs.new scr.new }
 {
-    let p = prepare::prepare(
-        sheet,
-        cells.len(),
-        regs.len(),
-        scr.len(),
-        kinds,
-        firsts,
-        nexts,
-        lasts,
-        acts,
-        begins,
-        afters,
-        places,
-        words,
-        blocks,
-    );
-    if p.refusal != 0 {
-        return calls::Answer {
-            answer: p.refusal,
-            controls: c,
-        };
-    }
-    calls::play(
-        sheet, p.count, p.scratch, firsts, nexts, acts, begins, afters, places, words, blocks, c,
-        out, cells, regs, scr,
-    )
+    let p = prepare::prepare(sheet, cells.len(), regs.len(), scr.len(), t)?;
+    calls::play(sheet, p.count, p.scratch, t, c, out, cells, regs, scr)
 }
 
-// A sheet of at most 24 records: to zero tables for 256 would take longer than a short fill of such a voice.
+// The two are apart, so that a short fill has no large tables among its locals.
 fn fill_short(
     sheet: &[u8],
-    c: control::Controls,
+    c: Controls,
     out: &mut [f32],
     cells: &mut [f32],
     regs: &mut [u64],
     scr: &mut [f32],
-) -> calls::Answer
+) -> Result<Controls, Refusal>
     requires { length sheet.now ≤ 984 }
-    ensures { Fills sheet.now c out.old cells.old regs.old scr.old result.answer result.controls out.new cells.new regs.new scr.new }
+    ensures { Fills sheet.now c out.old cells.old regs.old scr.old (answer_of result) (controls_of c result) out.new cells.new regs.new scr.new }
 {
-    let mut kinds = [0u8; 24];
-    let mut firsts = [0usize; 24];
-    let mut nexts = [0usize; 24];
-    let mut lasts = [0u8; 24];
-    let mut acts = [0u8; 24];
-    let mut begins = [0usize; 24];
-    let mut afters = [0usize; 24];
-    let mut places = [0usize; 25];
-    let mut words = [0usize; 25];
-    let mut blocks = [0usize; 25];
-    fill_by(
-        sheet,
-        c,
-        out,
-        cells,
-        regs,
-        scr,
-        &mut kinds,
-        &mut firsts,
-        &mut nexts,
-        &mut lasts,
-        &mut acts,
-        &mut begins,
-        &mut afters,
-        &mut places,
-        &mut words,
-        &mut blocks,
-    )
+    let mut t = Tables::<24, 25>::new();
+    fill_by(&mut t, sheet, c, out, cells, regs, scr)
 }
 
 fn fill_any(
     sheet: &[u8],
-    c: control::Controls,
+    c: Controls,
     out: &mut [f32],
     cells: &mut [f32],
     regs: &mut [u64],
     scr: &mut [f32],
-) -> calls::Answer
-    ensures { Fills sheet.now c out.old cells.old regs.old scr.old result.answer result.controls out.new cells.new regs.new scr.new }
+) -> Result<Controls, Refusal>
+    ensures { Fills sheet.now c out.old cells.old regs.old scr.old (answer_of result) (controls_of c result) out.new cells.new regs.new scr.new }
 {
-    let mut kinds = [0u8; 256];
-    let mut firsts = [0usize; 256];
-    let mut nexts = [0usize; 256];
-    let mut lasts = [0u8; 256];
-    let mut acts = [0u8; 256];
-    let mut begins = [0usize; 256];
-    let mut afters = [0usize; 256];
-    let mut places = [0usize; 257];
-    let mut words = [0usize; 257];
-    let mut blocks = [0usize; 257];
-    fill_by(
-        sheet,
-        c,
-        out,
-        cells,
-        regs,
-        scr,
-        &mut kinds,
-        &mut firsts,
-        &mut nexts,
-        &mut lasts,
-        &mut acts,
-        &mut begins,
-        &mut afters,
-        &mut places,
-        &mut words,
-        &mut blocks,
-    )
+    let mut t = Tables::<256, 257>::new();
+    fill_by(&mut t, sheet, c, out, cells, regs, scr)
 }
 
-// As many samples as out has, for the controls c.
+// As many samples as out has, for the controls c; the controls after them.
 pub fn fill(
     sheet: &[u8],
-    c: control::Controls,
+    c: Controls,
     out: &mut [f32],
     cells: &mut [f32],
     regs: &mut [u64],
     scr: &mut [f32],
-) -> calls::Answer
-    ensures { Fills sheet.now c out.old cells.old regs.old scr.old result.answer result.controls out.new cells.new regs.new scr.new }
+) -> Result<Controls, Refusal>
+    ensures { Fills sheet.now c out.old cells.old regs.old scr.old (answer_of result) (controls_of c result) out.new cells.new regs.new scr.new }
 {
-    if sheet.len() <= 984 {
+    if sheet.len() <= SHORT {
         return fill_short(sheet, c, out, cells, regs, scr);
     }
     fill_any(sheet, c, out, cells, regs, scr)
@@ -192,132 +96,72 @@ pub fn fill(
 // ---- moves
 
 // Glides to the pitch `scale` by the part `coefficient` of the way a sample.
-pub fn pitch(c: control::Controls, scale: f32, coefficient: f32) -> control::Controls
+pub fn pitch(c: Controls, scale: f32, coefficient: f32) -> Controls
     ensures { result ≡ pitch_moved c scale coefficient }
 {
-    control::glide_pitch(c, scale, coefficient)
+    c.glide_pitch(scale, coefficient)
 }
 
-pub fn bend(c: control::Controls, x: f32) -> control::Controls
+pub fn bend(c: Controls, x: f32) -> Controls
     ensures { result ≡ bend_moved c x }
 {
-    control::set_bend(c, x)
+    c.set_bend(x)
 }
 
-fn cutoff_by(
+fn cutoff_by<const N: usize, const M: usize>(
+    t: &mut Tables<N, M>,
     sheet: &[u8],
     x: f32,
     cells: &mut [f32],
     regs: &[u64],
     scr: &[f32],
-    kinds: &mut [u8],
-    firsts: &mut [usize],
-    nexts: &mut [usize],
-    lasts: &mut [u8],
-    acts: &mut [u8],
-    begins: &mut [usize],
-    afters: &mut [usize],
-    places: &mut [usize],
-    words: &mut [usize],
-    blocks: &mut [usize],
-) -> u8
-    requires { Rows sheet.now (length kinds.old) × (length kinds.old ≤ length firsts.old) × (length kinds.old ≤ length nexts.old) × (length kinds.old ≤ length lasts.old) × (length kinds.old ≤ length acts.old) × (length kinds.old ≤ length begins.old) × (length kinds.old ≤ length afters.old) × (length kinds.old < length places.old) × (length kinds.old < length words.old) × (length kinds.old < length blocks.old) }
-    ensures { Cuts sheet.now x cells.old (length regs.now) (length scr.now) result cells.new }
+) -> Result<(), Refusal>
+    requires { Rows sheet.now N × (N < M) }
+    ensures { Cuts sheet.now x cells.old (length regs.now) (length scr.now) (answer_of result) cells.new }
 {
-    let p = prepare::prepare(
-        sheet,
-        cells.len(),
-        regs.len(),
-        scr.len(),
-        kinds,
-        firsts,
-        nexts,
-        lasts,
-        acts,
-        begins,
-        afters,
-        places,
-        words,
-        blocks,
-    );
-    if p.refusal != 0 {
-        return p.refusal;
-    }
-    state::set_cutoff(sheet, p.count, acts, places, x, cells);
-    0
+    let p = prepare::prepare(sheet, cells.len(), regs.len(), scr.len(), t)?;
+    state::set_cutoff(sheet, p.count, &t.acts, &t.places, x, cells);
+    Ok(())
 }
 
-// A sheet of at most 24 records.
-fn cutoff_short(sheet: &[u8], x: f32, cells: &mut [f32], regs: &[u64], scr: &[f32]) -> u8
+fn cutoff_short(
+    sheet: &[u8],
+    x: f32,
+    cells: &mut [f32],
+    regs: &[u64],
+    scr: &[f32],
+) -> Result<(), Refusal>
     requires { length sheet.now ≤ 984 }
-    ensures { Cuts sheet.now x cells.old (length regs.now) (length scr.now) result cells.new }
+    ensures { Cuts sheet.now x cells.old (length regs.now) (length scr.now) (answer_of result) cells.new }
 {
-    let mut kinds = [0u8; 24];
-    let mut firsts = [0usize; 24];
-    let mut nexts = [0usize; 24];
-    let mut lasts = [0u8; 24];
-    let mut acts = [0u8; 24];
-    let mut begins = [0usize; 24];
-    let mut afters = [0usize; 24];
-    let mut places = [0usize; 25];
-    let mut words = [0usize; 25];
-    let mut blocks = [0usize; 25];
-    cutoff_by(
-        sheet,
-        x,
-        cells,
-        regs,
-        scr,
-        &mut kinds,
-        &mut firsts,
-        &mut nexts,
-        &mut lasts,
-        &mut acts,
-        &mut begins,
-        &mut afters,
-        &mut places,
-        &mut words,
-        &mut blocks,
-    )
+    let mut t = Tables::<24, 25>::new();
+    cutoff_by(&mut t, sheet, x, cells, regs, scr)
 }
 
-fn cutoff_any(sheet: &[u8], x: f32, cells: &mut [f32], regs: &[u64], scr: &[f32]) -> u8
-    ensures { Cuts sheet.now x cells.old (length regs.now) (length scr.now) result cells.new }
+fn cutoff_any(
+    sheet: &[u8],
+    x: f32,
+    cells: &mut [f32],
+    regs: &[u64],
+    scr: &[f32],
+) -> Result<(), Refusal>
+    ensures { Cuts sheet.now x cells.old (length regs.now) (length scr.now) (answer_of result) cells.new }
 {
-    let mut kinds = [0u8; 256];
-    let mut firsts = [0usize; 256];
-    let mut nexts = [0usize; 256];
-    let mut lasts = [0u8; 256];
-    let mut acts = [0u8; 256];
-    let mut begins = [0usize; 256];
-    let mut afters = [0usize; 256];
-    let mut places = [0usize; 257];
-    let mut words = [0usize; 257];
-    let mut blocks = [0usize; 257];
-    cutoff_by(
-        sheet,
-        x,
-        cells,
-        regs,
-        scr,
-        &mut kinds,
-        &mut firsts,
-        &mut nexts,
-        &mut lasts,
-        &mut acts,
-        &mut begins,
-        &mut afters,
-        &mut places,
-        &mut words,
-        &mut blocks,
-    )
+    let mut t = Tables::<256, 257>::new();
+    cutoff_by(&mut t, sheet, x, cells, regs, scr)
 }
 
 // Every filter's cutoff is multiplied by x from the next sample on.
-pub fn cutoff(sheet: &[u8], x: f32, cells: &mut [f32], regs: &[u64], scr: &[f32]) -> u8
-    ensures { Cuts sheet.now x cells.old (length regs.now) (length scr.now) result cells.new }
+pub fn cutoff(
+    sheet: &[u8],
+    x: f32,
+    cells: &mut [f32],
+    regs: &[u64],
+    scr: &[f32],
+) -> Result<(), Refusal>
+    ensures { Cuts sheet.now x cells.old (length regs.now) (length scr.now) (answer_of result) cells.new }
 {
-    if sheet.len() <= 984 {
+    if sheet.len() <= SHORT {
         return cutoff_short(sheet, x, cells, regs, scr);
     }
     cutoff_any(sheet, x, cells, regs, scr)
@@ -328,47 +172,14 @@ pub fn cutoff(sheet: &[u8], x: f32, cells: &mut [f32], regs: &[u64], scr: &[f32]
 // A voice at its start, with fresh controls.
 pub fn build(
     sheet: &[u8],
-    c: control::Controls,
+    c: Controls,
     cells: &mut [f32],
     regs: &mut [u64],
     scr: &mut [f32],
-) -> calls::Answer
-    ensures { Builds sheet.now c cells.old regs.old scr.old result.answer result.controls cells.new regs.new scr.new }
+) -> Result<Controls, Refusal>
+    ensures { Builds sheet.now c cells.old regs.old scr.old (answer_of result) (controls_of c result) cells.new regs.new scr.new }
 {
-    let mut kinds = [0u8; 256];
-    let mut firsts = [0usize; 256];
-    let mut nexts = [0usize; 256];
-    let mut lasts = [0u8; 256];
-    let mut acts = [0u8; 256];
-    let mut begins = [0usize; 256];
-    let mut afters = [0usize; 256];
-    let mut places = [0usize; 257];
-    let mut words = [0usize; 257];
-    let mut blocks = [0usize; 257];
-    let p = prepare::prepare(
-        sheet,
-        cells.len(),
-        regs.len(),
-        scr.len(),
-        &mut kinds,
-        &mut firsts,
-        &mut nexts,
-        &mut lasts,
-        &mut acts,
-        &mut begins,
-        &mut afters,
-        &mut places,
-        &mut words,
-        &mut blocks,
-    );
-    if p.refusal != 0 {
-        return calls::Answer {
-            answer: p.refusal,
-            controls: c,
-        };
-    }
-    calls::begin(
-        sheet, p.count, p.scratch, &firsts, &nexts, &acts, &begins, &afters, &places, &words,
-        &blocks, c, cells, regs, scr,
-    )
+    let mut t = Tables::<256, 257>::new();
+    let p = prepare::prepare(sheet, cells.len(), regs.len(), scr.len(), &mut t)?;
+    Ok(calls::begin(sheet, p.count, p.scratch, &t, c, cells, regs, scr))
 }

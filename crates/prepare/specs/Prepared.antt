@@ -1,16 +1,21 @@
 -- What checks 1 to 8 answer, and the tables that they leave where none applies.
-use Rattle.std.specs.Prelude.{◌≡◌, refl, Bool, cond, ◌&&◌, List, ◌≢◌, ℕ, leb}
+use Rattle.std.specs.Prelude.{◌≡◌, refl, Bool, cond, ◌&&◌, List, ◌≢◌, ℕ, leb, Result}
+use Rattle.std.specs.Result.{IfOk}
 use Rattle.std.proofs.Common.{◌∙◌, ne_eqb}
+use Rattle.refusal.specs.declared.Refusal.{Refusal}
+use Rattle.refusal.specs.Refusal.{answer_of}
 use Rattle.sheet.specs.Record.{count_of}
 use Rattle.sheet.specs.Checks.{check_of, lowest}
 use Rattle.layout.specs.Needs.{cells_from, registers_from, scratch_from}
 use Rattle.machine.specs.Machine.{room_check}
+use Rattle.tables.specs.declared.Tables.{Tables}
 use Rattle.tables.specs.Tables.{Made}
+use Rattle.prepare.specs.declared.Ready.{Ready}
 
-pub record Prepared (s : List ℕ) (nc nr ns : ℕ) (firsts nexts acts begins afters places words blocks : List ℕ) (a count need : ℕ) : Type 0 where
-  pub answer : a ≡ room_check s nc nr ns
-  pub made : a ≡ 0 → Made s count firsts nexts acts begins afters places words blocks
-  pub scratch : a ≡ 0 → need ≡ scratch_from s (count_of s)
+pub record Prepared {N M : ℕ} (s : List ℕ) (nc nr ns : ℕ) (t : Tables N M) (r : Result Ready Refusal) : Type 0 where
+  pub answer : answer_of r ≡ room_check s nc nr ns
+  pub made : IfOk r (λ y. Made s y.count t)
+  pub scratch : IfOk r (λ y. y.scratch ≡ scratch_from s (count_of s))
 
 -- room by the numbers that the tables end with
 pub room-checked : (s : List ℕ) (nc nr ns c r x : ℕ) → check_of s ≡ 0 → c ≡ cells_from s (count_of s) → r ≡ registers_from s (count_of s) → x ≡ scratch_from s (count_of s) → (b : Bool)

@@ -1,68 +1,43 @@
 // Checks 1 to 8, and the tables that an accepted sheet leaves.
 #![tactic(auto)]
 
-ghost use Rattle.std.specs.Prelude.{◌≤◌, ◌<◌, length};
+ghost use Rattle.std.specs.Prelude.{◌<◌};
 ghost use Rattle.sheet.specs.Links.{Rows};
 ghost use Rattle.prepare.specs.Prepared.{Prepared};
 
-// The refusal's number, or 0, and then the number of records and how much scratch they need.
+use refusal::Refusal;
+use tables::Tables;
+
+// The number of records, and how much scratch they need.
 #[derive(Clone, Copy)]
 pub struct Ready {
-    pub refusal: u8,
     pub count: usize,
     pub scratch: usize,
 }
 
-// Checks 1 to 8. Where none applies, the tables are set.
-pub fn prepare(
+// Checks 1 to 8, the last by how many cells, registers and scratch are lent. Where none applies, the tables are set.
+pub fn prepare<const N: usize, const M: usize>(
     sheet: &[u8],
     cells: usize,
     regs: usize,
     scr: usize,
-    kinds: &mut [u8],
-    firsts: &mut [usize],
-    nexts: &mut [usize],
-    lasts: &mut [u8],
-    acts: &mut [u8],
-    begins: &mut [usize],
-    afters: &mut [usize],
-    places: &mut [usize],
-    words: &mut [usize],
-    blocks: &mut [usize],
-) -> Ready
-    requires { Rows sheet.now (length kinds.old) × (length kinds.old ≤ length firsts.old) × (length kinds.old ≤ length nexts.old) × (length kinds.old ≤ length lasts.old) × (length kinds.old ≤ length acts.old) × (length kinds.old ≤ length begins.old) × (length kinds.old ≤ length afters.old) × (length kinds.old < length places.old) × (length kinds.old < length words.old) × (length kinds.old < length blocks.old) }
-    ensures { Prepared sheet.now cells regs scr firsts.new nexts.new acts.new begins.new afters.new places.new words.new blocks.new result.refusal result.count result.scratch }
+    t: &mut Tables<N, M>,
+) -> Result<Ready, Refusal>
+    requires { Rows sheet.now N × (N < M) }
+    ensures { Prepared sheet.now cells regs scr t.new result }
 {
-    let m = tables::measure(
-        sheet, kinds, firsts, nexts, lasts, acts, begins, afters, places, words, blocks,
-    );
-    let refusal = m.needed.refusal;
-    if refusal != 0 {
-        return Ready {
-            refusal,
-            count: 0,
-            scratch: 0,
-        };
-    }
+    let m = tables::measure(sheet, t)?;
     let count = m.count;
-    let scratch = m.needed.scratch as usize;
-    if machine::room_ok(
-        m.needed.cells as usize,
+    let scratch = m.needs.scratch as usize;
+    if !machine::room_ok(
+        m.needs.cells as usize,
         cells,
-        m.needed.registers as usize,
+        m.needs.registers as usize,
         regs,
         scratch,
         scr,
     ) {
-        return Ready {
-            refusal: 0,
-            count,
-            scratch,
-        };
+        return Err(Refusal::Memory);
     }
-    Ready {
-        refusal: 8,
-        count,
-        scratch,
-    }
+    Ok(Ready { count, scratch })
 }

@@ -6,8 +6,7 @@ use Rattle.float.specs.Order.{abs_of, max_of}
 use Rattle.float.specs.Single.{◌⊕◌, ◌⊖◌, ◌⊗◌, ◌⊘◌, zero, half, one, tau}
 use Rattle.dsp.specs.Math.{sine, power, logarithm10}
 use Rattle.proc.specs.declared.Mode.{Mode}
-use Rattle.proc.specs.declared.ModeOut.{ModeOut}
-use Rattle.proc.specs.declared.Compressed.{Compressed}
+use Rattle.proc.specs.declared.Compressor.{Compressor}
 
 -- x in the part that is not mixed, wet in the part that is
 abbrev pub blend : Float → Float → Float → Float
@@ -16,11 +15,9 @@ blend mix x wet = x ⊗ (one ⊖ mix) ⊕ wet ⊗ mix
 abbrev pub gain_of : Float → Float → Float
 gain_of amount x = x ⊗ amount
 
--- ---- a mode of Modal
-unfoldable pub mode_of : Mode → Float → ModeOut
-mode_of m x =
-    let y = m.b0 ⊗ x ⊕ m.a1 ⊗ m.y1 ⊕ m.a2 ⊗ m.y2 in
-    record { out = y; mode = record { a1 = m.a1; a2 = m.a2; b0 = m.b0; y1 = y; y2 = m.y1 } }
+-- ---- a mode of Modal: the sample, and the mode then
+unfoldable pub mode_of : Mode → Float → Float × Mode
+mode_of m x = let y = m.b0 ⊗ x ⊕ m.a1 ⊗ m.y1 ⊕ m.a2 ⊗ m.y2 in (y, record { a1 = m.a1; a2 = m.a2; b0 = m.b0; y1 = y; y2 = m.y1 })
 
 -- ---- Tremolo and Chorus: a sine of the position
 abbrev pub lfo_angle : Float → Float → ℕ → Float
@@ -38,24 +35,25 @@ tremolo_of rate depth srf t x = tremolo_by depth (lfo_at rate srf t) x
 
 -- ---- Compress: an envelope follower, its level in dB above the threshold turned down by the ratio
 -- the follower goes to the rectified sample by the attack where it rises and by the release where it falls
-unfoldable pub followed : Float → Float → Float → Float → Float
-followed at rt env rect = rect ⊕ cond (lt env rect) at rt ⊗ (env ⊖ rect)
+unfoldable pub followed : Compressor → Float → Float → Float
+followed c env rect = rect ⊕ cond (lt env rect) c.at c.rt ⊗ (env ⊖ rect)
 
-unfoldable pub reduction_of : Float → Float → Float → Float
-reduction_of threshold ratio db = cond (lt threshold db) (neg (db ⊖ threshold) ⊗ (one ⊖ one ⊘ ratio)) zero
+unfoldable pub reduction_of : Compressor → Float → Float
+reduction_of c db = cond (lt c.threshold db) (neg (db ⊖ c.threshold) ⊗ (one ⊖ one ⊘ c.ratio)) zero
 
-unfoldable pub compress_of : Float → Float → Float → Float → Float → Float → Float → Compressed
-compress_of at rt threshold ratio makeup env x =
-    let e = followed at rt env (abs_of x) in
+-- the sample, and the follower then
+unfoldable pub compress_of : Compressor → Float → Float → Float × Float
+compress_of c env x =
+    let e = followed c env (abs_of x) in
     let db = of_bits binary32 0x41a0_0000 ⊗ logarithm10 (max_of e (of_bits binary32 0x3089_705f)) in
-    record { out = x ⊗ power (of_bits binary32 0x4120_0000) (reduction_of threshold ratio db ⊘ of_bits binary32 0x41a0_0000) ⊗ makeup; env = e }
+    (x ⊗ power (of_bits binary32 0x4120_0000) (reduction_of c db ⊘ of_bits binary32 0x41a0_0000) ⊗ c.makeup, e)
 
--- its two halves: the follower with the power of 10 that the gain is, and the gain
-abbrev pub compress_level : Float → Float → Float → Float → Float → Float → Compressed
-compress_level at rt threshold ratio env x =
-    let e = followed at rt env (abs_of x) in
+-- its two halves: the power of 10 that the gain is with the follower, and the gain
+abbrev pub compress_level : Compressor → Float → Float → Float × Float
+compress_level c env x =
+    let e = followed c env (abs_of x) in
     let db = of_bits binary32 0x41a0_0000 ⊗ logarithm10 (max_of e (of_bits binary32 0x3089_705f)) in
-    record { out = reduction_of threshold ratio db ⊘ of_bits binary32 0x41a0_0000; env = e }
+    (reduction_of c db ⊘ of_bits binary32 0x41a0_0000, e)
 
-abbrev pub compress_gain : Float → Float → Float → Float
-compress_gain makeup level x = x ⊗ power (of_bits binary32 0x4120_0000) level ⊗ makeup
+abbrev pub compress_gain : Compressor → Float → Float → Float
+compress_gain c level x = x ⊗ power (of_bits binary32 0x4120_0000) level ⊗ c.makeup

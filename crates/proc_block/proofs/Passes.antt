@@ -1,10 +1,7 @@
--- Compress in two passes is Compress, Drive by tanh in four is Drive, the LFO in two is the LFO, and Tremolo by its sines is Tremolo. Assumes nothing.
-use mathlib.Core.Path.{◌≡◌, refl, sym, ap, ◌∙◌}
-use mathlib.Core.List.{List, map}
-use Prim.Native.Nat.{ℕ, zero, suc, ◌≤◌, ◌<◌}
-use native.Mathlib.Omega.{arith}
-use lib.ListN.{length}
-use lib.Ieee.{Float, nan}
+-- Compress in two passes is Compress, Drive by tanh in four is Drive, the LFO in two is the LFO, and Tremolo by its sines is Tremolo.
+use Rattle.std.proofs.Common.{◌≡◌, refl, sym, ap, ◌∙◌, List, map, length, ℕ, zero, suc, ◌≤◌, ◌<◌, arith}
+use Rattle.std.specs.Prelude.{Float}
+use Rattle.std.specs.Float.{nan}
 use Rattle.tree.specs.Block.{tab-eq}
 use Rattle.block.specs.Iterate.{at, after, given, sample_at, given-length, given-at, after_same, given-same}
 use Rattle.dsl.specs.declared.DriveShape.TheVariants.{Tanh}
@@ -12,30 +9,30 @@ use Rattle.dsp.specs.Map.{map-tab}
 use Rattle.dsp.specs.Math.{sine}
 use Rattle.drive.specs.Drive.{ln_cosh, antiderivative_of}
 use Rattle.drive_step.specs.declared.Drive.{Drive}
-use Rattle.drive_step.specs.declared.DriveOut.{DriveOut}
 use Rattle.drive_step.specs.Drive.{driven, drive_by, drive_step}
+use Rattle.proc.specs.declared.Compressor.{Compressor}
 use Rattle.proc.specs.Effects.{tremolo_by, tremolo_of, compress_gain, compress_of}
 use Rattle.proc_block.specs.Steps.{driven_step, decay_step, ln_cosh_step, drive_by_step, drive_step_at, lfo_step, angle_step, tremolo_step, tremolo_by_step, compress_step, level_step, level_gain_step}
 
-module _ (xs : List Float) (attack release threshold ratio makeup env : Float) where
+module _ (xs : List Float) (c : Compressor) (env : Float) where
   abbrev whole : ℕ → Float → Float × Float
-  whole = compress_step xs attack release threshold ratio makeup
+  whole = compress_step xs c
 
   abbrev first : ℕ → Float → Float × Float
-  first = level_step xs attack release threshold ratio
+  first = level_step xs c
 
   pub after-levels : (n : ℕ) → after whole env n ≡ after first env n
   unfolding after compress_step level_step compress_of
   after-levels zero = refl
   after-levels (suc n) = ap (λ (u : Float). (first n u).1) (after-levels n)
 
-  level-is : (n k : ℕ) → k < n → sample_at whole env k ≡ sample_at (level_gain_step xs (given first env n) makeup) tt k
+  level-is : (n k : ℕ) → k < n → sample_at whole env k ≡ sample_at (level_gain_step xs (given first env n) c) tt k
   unfolding compress_step level_step level_gain_step compress_of
-  level-is n k h = ap (λ (u : Float). (whole k u).0) (after-levels k) ∙ ap (λ (y : Float). compress_gain makeup y (at xs k)) (sym (given-at first env n k nan h))
+  level-is n k h = ap (λ (u : Float). (whole k u).0) (after-levels k) ∙ ap (λ (y : Float). compress_gain c y (at xs k)) (sym (given-at first env n k nan h))
 
-  pub given-levels : (n : ℕ) → given whole env n ≡ given (level_gain_step xs (given first env n) makeup) tt n
+  pub given-levels : (n : ℕ) → given whole env n ≡ given (level_gain_step xs (given first env n) c) tt n
   unfolding given
-  given-levels n = tab-eq n (sample_at whole env) (sample_at (level_gain_step xs (given first env n) makeup) tt) (level-is n)
+  given-levels n = tab-eq n (sample_at whole env) (sample_at (level_gain_step xs (given first env n) c) tt) (level-is n)
 
 -- ys are the amplified samples, ds their decays, in a buffer of n, and fs their antiderivatives
 module _ (xs amount ys ds fs : List Float) (n : ℕ) (long : n ≡ length xs)
@@ -61,8 +58,9 @@ module _ (xs amount ys ds fs : List Float) (n : ℕ) (long : n ≡ length xs)
 
   step_is : (k : ℕ) → k < length xs → (u : Drive) → drive_by_step ys fs Tanh k u ≡ drive_step_at xs amount Tanh k u
   unfolding drive_by_step drive_step_at drive_step
-  step_is k h u = ap (λ (r : DriveOut). (r.out, r.drive))
-      (ap (λ (f : Float). drive_by Tanh (at ys k) f u) (antiderivative-is k h) ∙ ap (λ (x : Float). drive_by Tanh x (antiderivative_of Tanh x) u) (sample-is k h))
+  step_is k h u =
+      ap (λ (f : Float). drive_by Tanh (at ys k) f u) (antiderivative-is k h)
+      ∙ ap (λ (x : Float). drive_by Tanh x (antiderivative_of Tanh x) u) (sample-is k h)
 
   pub given-drive : (s : Drive) → given (drive_by_step ys fs Tanh) s (length ys) ≡ given (drive_step_at xs amount Tanh) s (length xs)
   given-drive s = ap (given (drive_by_step ys fs Tanh) s) length-ys ∙ given-same (drive_by_step ys fs Tanh) (drive_step_at xs amount Tanh) s (length xs) step_is

@@ -37,7 +37,9 @@ fn tremolo(r: &[u8], sr: u32, c: control::Controls, out: &mut [f32], buf: &mut [
     proc_block::tremolo_block(out, buf, rate, depth, srf, c.position);
 }
 
-// r is the record's bytes from its first on.
+// r is the record's bytes from its first on. The kind is the record's byte, as the definitions have it: an enum would be made here
+// only to be matched once.
+#[tactic(auto, unfolding(unit::specs::Processors::processor_unit))]
 fn processor0(
     r: &[u8],
     sr: u32,
@@ -82,6 +84,8 @@ pub fn play0(
 
 // ---- those with a value
 
+// The kind is a byte here as well.
+#[tactic(auto, unfolding(unit::specs::Processors::processor_unit))]
 fn processor1(
     r: &[u8],
     sr: u32,

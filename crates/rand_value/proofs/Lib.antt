@@ -1,1 +1,2 @@
+mod Catch
 pub mod RandPhase

@@ -353,7 +353,7 @@ sixty-four = refl
 -- ---- the laws, for an increment from 0 to 64 and a phase from 0 to below 1. That these fit binary32 is not needed, as the sum is rounded.
 -- s before its catch-up
 abbrev pub advanced : Float → Rand → Rand
-advanced inc s = record { word = s.word; prev = s.prev; next = s.next; phase = s.phase ⊕ inc }
+advanced inc s = record s { phase = s.phase ⊕ inc }
 
 module _ (inc from to : Float) (s : Rand) (i0 : le zero_f inc ≡ true) (i64 : le inc (of_bits binary32 0x4280_0000) ≡ true) (p0 : le zero_f s.phase ≡ true) (p1 : lt s.phase one ≡ true) where
   start : Below (s.phase ⊕ inc) 66

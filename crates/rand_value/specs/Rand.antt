@@ -18,7 +18,7 @@ rand_out s =
 
 -- one segment is done: the next number is drawn
 unfoldable pub rand_turn : Float → Float → Rand → Rand
-rand_turn from to s = record { word = stepped s.word; prev = s.next; next = range_of s.word from to; phase = s.phase ⊖ one }
+rand_turn from to s = record { rng = record { state = stepped s.rng.state }; prev = s.next; next = range_of s.rng.state from to; phase = s.phase ⊖ one }
 
 -- while the phase is 1 or more, n times at most; the test is an argument. An increment of at most 64 on a phase below 1 takes at most 65, so the bound cuts nothing off (`catch-ends`).
 unfoldable pub catch_up : ℕ → Bool → Float → Float → Rand → Rand
@@ -28,5 +28,5 @@ catch_up (suc n) true from to s = let r = rand_turn from to s in catch_up n (le 
 
 unfoldable pub rand_next : Float → Float → Float → Rand → Rand
 rand_next inc from to s =
-    let r : Rand = record { word = s.word; prev = s.prev; next = s.next; phase = s.phase ⊕ inc } in
+    let r : Rand = record s { phase = s.phase ⊕ inc } in
     catch_up 65 (le one r.phase) from to r

@@ -14,15 +14,6 @@ use Rattle.calls.specs.Calls.{Builds}
 use Rattle.render_voice.specs.Seconds.{is_digit, all_digits, decimal_from, seconds_from}
 
 -- ---- the argument, digit by digit
-digit : (b : ℕ) → 48 ≤ b → b ≤ 57 → is_digit b ≡ true
-digit b l h = rw (le-leb 48 b l, le-leb b 57 h)
-
-below : (b : ℕ) → b < 48 → is_digit b ≡ false
-below b h = rw (lt-leb 48 b h)
-
-above : (b : ℕ) → 57 < b → is_digit b ≡ false
-above b h = rw (le-leb 48 b (omega arith), lt-leb b 57 h)
-
 first-digit : (n b : ℕ) (bs : List ℕ) → is_digit b ≡ true → seconds_from n (b ∷ bs) ≡ seconds_from (10 * n + (b - 48)) bs
 unfolding seconds_from all_digits decimal_from
 first-digit n b bs e = rw e
@@ -31,15 +22,12 @@ first-other : (n b : ℕ) (bs : List ℕ) → is_digit b ≡ false → seconds_f
 unfolding seconds_from all_digits
 first-other n b bs e = rw e
 
-module _ (n k : ℕ) (text : List ℕ) (h : k < length text) where
-  pub seconds-digit : 48 ≤ get_or text k 0 → get_or text k 0 ≤ 57 → seconds_from n (drop k text) ≡ seconds_from (10 * n + (get_or text k 0 - 48)) (drop (k + 1) text)
-  seconds-digit l m = rw (drop-cons text k 0, add-one k) (first-digit n (get_or text k 0) (drop (suc k) text) (digit (get_or text k 0) l m))
+module _ (n k d : ℕ) (text : List ℕ) (h : k < length text) where
+  pub seconds-digit : is_digit (get_or text k d) ≡ true → seconds_from n (drop k text) ≡ seconds_from (10 * n + (get_or text k d - 48)) (drop (k + 1) text)
+  seconds-digit e = rw (drop-cons text k d, add-one k) (first-digit n (get_or text k d) (drop (suc k) text) e)
 
-  pub seconds-below : get_or text k 0 < 48 → seconds_from n (drop k text) ≡ 0
-  seconds-below l = rw (drop-cons text k 0) (first-other n (get_or text k 0) (drop (suc k) text) (below (get_or text k 0) l))
-
-  pub seconds-above : 57 < get_or text k 0 → seconds_from n (drop k text) ≡ 0
-  seconds-above m = rw (drop-cons text k 0) (first-other n (get_or text k 0) (drop (suc k) text) (above (get_or text k 0) m))
+  pub seconds-other : is_digit (get_or text k d) ≡ false → seconds_from n (drop k text) ≡ 0
+  seconds-other e = rw (drop-cons text k d) (first-other n (get_or text k d) (drop (suc k) text) e)
 
 pub seconds-end : (n : ℕ) → n ≤ 3600 → seconds_from n [] ≡ n
 unfolding seconds_from all_digits decimal_from
@@ -74,7 +62,3 @@ built {s} {c} {r} {cs} {zs} {ds} {ws} {rs} {ss} {a} b z = (room-passed s (length
 -- ---- numbers
 pub most-samples : (r t : ℕ) → r ≤ 192000 → t ≤ 3600 → r * t ≤ 691200000
 most-samples r t h g = mul-le-mul h g
-
--- the length of an array of zeros, which is too long to be counted
-pub zeros-length : (n : ℕ) → n ≡ length (replicate n (of_bits binary32 0))
-zeros-length n = sym (length-replicate n (of_bits binary32 0))

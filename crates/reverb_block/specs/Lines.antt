@@ -8,8 +8,6 @@ use Rattle.std.proofs.lemmas.List.{set-append_left}
 use Rattle.std.specs.Float.{nan}
 use Rattle.float.specs.Single.{◌⊕◌}
 use Rattle.block.specs.Iterate.{at, word}
-use Rattle.line_step.specs.declared.CombOut.{CombOut}
-use Rattle.line_step.specs.declared.AllpassOut.{AllpassOut}
 use Rattle.line_step.specs.Line.{next_place, comb_of, allpass_of}
 use Rattle.reverb_block.specs.Reverb.{line_from, store_of, comb_at, allpass_at, Placed}
 
@@ -61,6 +59,14 @@ line-next {lens} {k} a b h same e = record {
   start = ap (λ (n : ℕ). n + word lens k) a.start ∙ sym (line-more lens k) ∙ ap (line_from lens) e;
 }
 
+-- the same lines from another place on
+pub line-again : {lens rs : List ℕ} {ls : List Float} {from k : ℕ} → LineAt lens rs ls from k → {w j : ℕ} → w ≡ line_from lens j → LineAt lens rs ls w j
+line-again a e = record { placed = a.placed; long = a.long; start = e }
+
+pub line-first : {lens rs : List ℕ} {ls : List Float} {from k : ℕ} → LineAt lens rs ls from k → LineAt lens rs ls 0 0
+unfolding line_from
+line-first a = line-again a (λ i. 0)
+
 -- ---- the two parts
 set_append_right : {A : Type 0} (xs ys : List A) (k : ℕ) (a : A) → set (xs ++ ys) (length xs + k) a ≡ xs ++ set ys k a
 set_append_right [] ys k a = let e : 0 + k ≡ k = omega arith in rw e
@@ -85,19 +91,19 @@ module _ {lens rs : List ℕ} {ls : List Float} {from k : ℕ} (a : LineAt lens 
       ∙ ap (λ (n : ℕ). set (ms ++ ss) (n + k) z) (sym (length-set ls (from + word rs k) y ∙ a.long))
       ∙ set_append_right ms ss k z
 
-  pub comb-turn : (feedback x wet : Float) (ss : List Float) {o : CombOut} {w : ℕ} → o ≡ comb_of feedback (at ss k) x (at ls (from + word rs k)) → w ≡ next_place (word rs k) (word lens k)
-      → (wet ⊕ o.out, (set ls (from + word rs k) o.line ++ set ss k o.store, set rs k w)) ≡ comb_at feedback lens x (wet, (ls ++ ss, rs)) k
+  pub comb-turn : (feedback x wet : Float) (ss : List Float) {o : Float × Float × Float} {w : ℕ} → o ≡ comb_of feedback (at ss k) x (at ls (from + word rs k)) → w ≡ next_place (word rs k) (word lens k)
+      → (wet ⊕ o.0, (set ls (from + word rs k) o.2 ++ set ss k o.1, set rs k w)) ≡ comb_at feedback lens x (wet, (ls ++ ss, rs)) k
   unfolding comb_at
   comb-turn feedback x wet ss {o} e n =
       let q : o ≡ comb_of feedback (at (ls ++ ss) (store_of lens k)) x (at (ls ++ ss) (line_from lens k + word rs k)) = e ∙ sym (λ i. comb_of feedback (read-store ss i) x (read-line ss i)) in
-      λ i. (wet ⊕ (q i).out, (sym (write_store ss (q i).line (q i).store) i, set rs k (n i)))
+      λ i. (wet ⊕ (q i).0, (sym (write_store ss (q i).2 (q i).1) i, set rs k (n i)))
 
-  pub allpass-turn : (wet : Float) (ss : List Float) {o : AllpassOut} {w : ℕ} → o ≡ allpass_of wet (at ls (from + word rs k)) → w ≡ next_place (word rs k) (word lens k)
-      → (o.out, (set ls (from + word rs k) o.line ++ ss, set rs k w)) ≡ allpass_at lens (wet, (ls ++ ss, rs)) k
+  pub allpass-turn : (wet : Float) (ss : List Float) {o : Float × Float} {w : ℕ} → o ≡ allpass_of wet (at ls (from + word rs k)) → w ≡ next_place (word rs k) (word lens k)
+      → (o.0, (set ls (from + word rs k) o.1 ++ ss, set rs k w)) ≡ allpass_at lens (wet, (ls ++ ss, rs)) k
   unfolding allpass_at
   allpass-turn wet ss {o} e n =
       let q : o ≡ allpass_of wet (at (ls ++ ss) (line_from lens k + word rs k)) = e ∙ sym (ap (allpass_of wet) (read-line ss)) in
-      λ i. ((q i).out, (sym (write-line ss (q i).line) i, set rs k (n i)))
+      λ i. ((q i).0, (sym (write-line ss (q i).1) i, set rs k (n i)))
 
 -- ---- the cells taken apart at d, and put together again
 pub parts : (d : ℕ) (cs : List Float) → take d cs ++ take (length cs - d) (drop d cs) ≡ cs

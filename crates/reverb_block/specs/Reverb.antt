@@ -23,13 +23,13 @@ unfoldable pub comb_at : Float → List ℕ → Float → Wet → ℕ → Wet
 comb_at feedback lens x (wet, (cs, rs)) k =
     let w = line_from lens k + word rs k in
     let o = comb_of feedback (at cs (store_of lens k)) x (at cs w) in
-    (wet ⊕ o.out, (set (set cs w o.line) (store_of lens k) o.store, set rs k (next_place (word rs k) (word lens k))))
+    (wet ⊕ o.0, (set (set cs w o.2) (store_of lens k) o.1, set rs k (next_place (word rs k) (word lens k))))
 
 unfoldable pub allpass_at : List ℕ → Wet → ℕ → Wet
 allpass_at lens (wet, (cs, rs)) k =
     let w = line_from lens k + word rs k in
     let o = allpass_of wet (at cs w) in
-    (o.out, (set cs w o.line, set rs k (next_place (word rs k) (word lens k))))
+    (o.0, (set cs w o.1, set rs k (next_place (word rs k) (word lens k))))
 
 abbrev pub combs : Float → List ℕ → Float → List Float × List ℕ → ℕ → Wet
 combs feedback lens x s = units (comb_at feedback lens x) (single.zero, s)

@@ -5,6 +5,7 @@ ghost use Rattle.std.specs.Prelude.{◌≡◌, ◌+◌, ◌^◌, ◌≤◌, ◌<
 ghost use Rattle.block.specs.Iterate.{given, after};
 ghost use Rattle.reverb_block.specs.Reverb as bank;
 ghost use Rattle.reverb_block.specs.Reverb.{line_from, reverb_step, Placed};
+ghost use Rattle.reverb_block.specs.Lines.{LineAt};
 
 // The six combs, one after the other: their sum.
 fn combs(
@@ -15,46 +16,42 @@ fn combs(
     feedback: f32,
     x: f32,
 ) -> f32
-    requires { Placed lens.now places.old × (length lines.old ≡ line_from lens.now 10) × (length stores.old ≡ 6) }
-    ensures { ((result, (lines.new ++ stores.new, places.new)) ≡ bank.combs feedback lens.now x (lines.old ++ stores.old, places.old) 6) × Placed lens.now places.new × (length lines.new ≡ length lines.old) × (length stores.new ≡ 6) }
+    requires { LineAt lens.now places.old lines.old 0 0 × (length stores.old ≡ 6) }
+    ensures { ((result, (lines.new ++ stores.new, places.new)) ≡ bank.combs feedback lens.now x (lines.old ++ stores.old, places.old) 6) × LineAt lens.now places.new lines.new 0 0 × (length stores.new ≡ 6) }
 {
     let mut wet: f32 = 0.0;
     let mut from: usize = 0;
-    let mut k: usize = 0;
-    while k < 6 {
+    for k in 0..6 {
         let place = places[k];
         let len = lens[k];
         let w = from + (place as usize);
-        let o = line_step::comb(feedback, stores[k], x, lines[w]);
-        lines[w] = o.line;
-        stores[k] = o.store;
+        let (y, store, line) = line_step::comb(feedback, stores[k], x, lines[w]);
+        lines[w] = line;
+        stores[k] = store;
         places[k] = line_step::next_place(place, len);
-        wet = wet + o.out;
+        wet = wet + y;
         from = from + (len as usize);
-        k += 1;
     }
     wet
 }
 
 // The four allpasses, one after the other, from the combs' sum; first is where the first of their lines begins.
 fn allpasses(lines: &mut [f32], places: &mut [u64], lens: &[u64], first: usize, sum: f32) -> f32
-    requires { Placed lens.now places.old × (length lines.old ≡ line_from lens.now 10) × (first ≡ line_from lens.now 6) }
-    ensures { ((ss : List Float) → (result, (lines.new ++ ss, places.new)) ≡ bank.allpasses lens.now (sum, (lines.old ++ ss, places.old)) 4) × Placed lens.now places.new × (length lines.new ≡ length lines.old) }
+    requires { LineAt lens.now places.old lines.old first 6 }
+    ensures { ((ss : List Float) → (result, (lines.new ++ ss, places.new)) ≡ bank.allpasses lens.now (sum, (lines.old ++ ss, places.old)) 4) × LineAt lens.now places.new lines.new first 6 }
 {
     let mut wet = sum;
     let mut from = first;
-    let mut k: usize = 0;
-    while k < 4 {
+    for k in 0..4 {
         let i = 6 + k;
         let place = places[i];
         let len = lens[i];
         let w = from + (place as usize);
-        let o = line_step::allpass(wet, lines[w]);
-        lines[w] = o.line;
+        let (y, line) = line_step::allpass(wet, lines[w]);
+        lines[w] = line;
         places[i] = line_step::next_place(place, len);
-        wet = o.out;
+        wet = y;
         from = from + (len as usize);
-        k += 1;
     }
     wet
 }
@@ -65,10 +62,8 @@ fn line_from(lens: &[u64], n: usize) -> usize
     ensures { result ≡ line_from lens.now n }
 {
     let mut from: usize = 0;
-    let mut k: usize = 0;
-    while k < n {
+    for k in 0..n {
         from = from + (lens[k] as usize);
-        k += 1;
     }
     from
 }
@@ -83,43 +78,20 @@ fn reverb_lines(
     stores: &mut [f32],
     places: &mut [u64],
 )
-    requires { Placed lens.now places.old × (length lines.old ≡ line_from lens.now 10) × (length stores.old ≡ 6) }
-    ensures { (out.new ≡ given (reverb_step out.old feedback mix lens.now) (lines.old ++ stores.old, places.old) (length out.old)) × ((lines.new ++ stores.new, places.new) ≡ after (reverb_step out.old feedback mix lens.now) (lines.old ++ stores.old, places.old) (length out.old)) × Placed lens.now places.new × (length lines.new ≡ length lines.old) × (length stores.new ≡ 6) }
+    requires { LineAt lens.now places.old lines.old 0 0 × (length stores.old ≡ 6) }
+    ensures { (out.new ≡ given (reverb_step out.old feedback mix lens.now) (lines.old ++ stores.old, places.old) (length out.old)) × ((lines.new ++ stores.new, places.new) ≡ after (reverb_step out.old feedback mix lens.now) (lines.old ++ stores.old, places.old) (length out.old)) × LineAt lens.now places.new lines.new 0 0 × (length stores.new ≡ 6) }
 {
     let first = line_from(lens, 6);
-    let mut k: usize = 0;
-    while k < out.len() {
+    for k in 0..out.len() {
         let x = out[k];
         let sum = combs(lines, stores, places, lens, feedback, x);
         let wet = allpasses(lines, places, lens, first, sum);
         out[k] = line_step::reverb_mix(mix, x, wet);
-        k += 1;
     }
 }
 
-fn copy_cells(to: &mut [f32], from: &[f32])
-    requires { length to.old ≡ length from.now }
-    ensures { to.new ≡ from.now }
-{
-    let mut k: usize = 0;
-    while k < to.len() {
-        to[k] = from[k];
-        k += 1;
-    }
-}
-
-fn copy_words(to: &mut [u64], from: &[u64])
-    requires { length to.old ≡ length from.now }
-    ensures { to.new ≡ from.now }
-{
-    let mut k: usize = 0;
-    while k < to.len() {
-        to[k] = from[k];
-        k += 1;
-    }
-}
-
-// The cells are the lines and then the combs' six stores; the registers are the ten places.
+// The cells are the lines and then the combs' six stores; the registers are the ten places. Stores, places and lengths are
+// copied, so that the compiler knows that no two of them overlap.
 pub fn reverb_block(
     out: &mut [f32],
     feedback: f32,
@@ -135,9 +107,9 @@ pub fn reverb_block(
     let mut stores = [0.0f32; 6];
     let mut places = [0u64; 10];
     let mut sizes = [0u64; 10];
-    copy_cells(&mut stores, &cells[total..]);
-    copy_words(&mut places, regs);
-    copy_words(&mut sizes, lens);
+    stores.copy_from_slice(&cells[total..]);
+    places.copy_from_slice(regs);
+    sizes.copy_from_slice(lens);
     reverb_lines(
         out,
         feedback,
@@ -147,6 +119,6 @@ pub fn reverb_block(
         &mut stores,
         &mut places,
     );
-    copy_cells(&mut cells[total..], &stores);
-    copy_words(regs, &places);
+    cells[total..].copy_from_slice(&stores);
+    regs.copy_from_slice(&places);
 }

@@ -15,12 +15,10 @@ fn places_below(lens: &[u64], words: &[u64]) -> bool
     requires { (length lens.now ≡ 10) × (length words.now ≡ 10) }
     ensures { result ≡ all (place_test lens.now words.now) 10 }
 {
-    let mut k = 0usize;
-    while k < 10 {
+    for k in 0..10 {
         if words[k] >= lens[k] {
             return false;
         }
-        k += 1;
     }
     true
 }
@@ -29,8 +27,7 @@ fn places_ok(rate: u32, own: &[f32], words: &[u64]) -> bool
     requires { (rate ≤ 192000) × (length words.now ≡ 10) }
     ensures { result ≡ places_ok (reverb_lines rate) (own.now, words.now) }
 {
-    let mut lens = [0u64; 10];
-    lines::reverb_lens(rate, &mut lens);
+    let lens = lines::reverb_lens(rate);
     places_below(&lens, words)
 }
 
@@ -104,12 +101,10 @@ pub fn rings_ok(
     requires { Passed sheet.now count × Table (λ j. role_code (role sheet.now j)) count acts.now × Table (cells_from sheet.now) (count + 1) places.now × Table (registers_from sheet.now) (count + 1) words.now × (cells_from sheet.now count ≤ length cells.now) × (registers_from sheet.now count ≤ length regs.now) }
     ensures { result ≡ rings_ok sheet.now (cells.now, regs.now) }
 {
-    let mut i = 0usize;
-    while i < count {
+    for i in 0..count {
         if !record_ok(sheet, count, acts, places, words, cells, regs, i) {
             return false;
         }
-        i += 1;
     }
     true
 }

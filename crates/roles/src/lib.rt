@@ -21,10 +21,8 @@ pub fn owners(sheet: &[u8], count: usize, firsts: &[usize], nexts: &[usize], own
     requires { Passed sheet.now count × Table (first sheet.now) count firsts.now × Table (next sheet.now) count nexts.now × (count ≤ length owned.old) }
     ensures { Table (owner sheet.now) count owned.new }
 {
-    let mut i = 0usize;
-    while i < count {
+    for i in 0..count {
         own(sheet, count, i, owned[i], firsts[i], nexts[i], owned);
-        i += 1;
     }
     owned[0] = 0;
 }
@@ -57,9 +55,7 @@ pub fn stages(
     requires { Passed sheet.now count × Table (kind sheet.now) count kinds.now × Table (next sheet.now) count nexts.now × (count ≤ length lasts.old) × (count ≤ length froms.old) }
     ensures { Table (λ j. flag (trailing sheet.now j)) count lasts.new × Table (stage_from sheet.now) count froms.new }
 {
-    let mut j = count;
-    while 0 < j {
-        j -= 1;
+    for j in (0..count).rev() {
         let n = nexts[j];
         let t = trails(n, kinds[n], lasts[n]);
         lasts[j] = t;
@@ -145,8 +141,7 @@ fn roles(
     requires count_in_bounds { (count ≤ length owned.old) × (count ≤ length acts.old) × (count ≤ length begins.old) × (count ≤ length afters.old) }
     ensures { Table (λ j. role_code (role sheet.now j)) count acts.new × Table (begin sheet.now) count begins.new × Table (after sheet.now) count afters.new }
 {
-    let mut i = 0usize;
-    while i < count {
+    for i in 0..count {
         let o = owned[i];
         let f = firsts[i];
         let n = nexts[i];
@@ -155,7 +150,6 @@ fn roles(
         afters[i] = after_at(r, n);
         acts[i] = r;
         own(sheet, count, i, o, f, n, owned);
-        i += 1;
     }
 }
 

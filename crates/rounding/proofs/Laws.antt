@@ -1,7 +1,7 @@
--- Laws of `whole_of`: where x stays, what it is above zero, and what below. Assumes nothing.
+-- Laws of `whole_of`: where x stays, what it is above zero, and what below.
 use mathlib.Core.Path.{◌≡◌, refl, sym, ap, ◌∙◌, subst}
 use mathlib.Core.Bool.{Bool, true, false, not}
-use Prim.Native.Nat.{ℕ, zero, suc, ◌+◌, ◌-◌, ◌*◌, ◌/◌, ◌%◌, ◌^◌, ◌≤◌, ◌<◌}
+use Prim.Native.Nat.{ℕ, zero, suc, ◌+◌, ◌-◌, ◌*◌, ◌^◌, ◌≤◌, ◌<◌}
 use native.Mathlib.Nat.{le_of_lt, lt_of_lt_of_le, mul-one, one-mul, mul_assoc, mul-le-mul_left, pow-suc, div-one}
 use native.Mathlib.Omega.{arith}
 use lib.IntN.{ℤ, pos, negsuc}
@@ -10,7 +10,7 @@ use lib.Pow.{pow_pos, pow_mono}
 use lib.Ieee.{Float, nan, inf, fin, Format, prec, up, down, fits, neg, lt, of_int}
 use lib.Ieee.Positive.{num, den}
 use Rattle.ieee.proofs.Tests.{null, two_to, yes, no}
-use Rattle.ieee.proofs.Value.{fits_lt, fits-odd, zero_exp, same-value, whole-value}
+use Rattle.ieee.proofs.Value.{fits_lt, zero_exp, same-value, whole-value}
 use Rattle.rounding.specs.Whole.{whole_of, cut, ceil, half}
 
 -- ---- what is whole

@@ -1,4 +1,4 @@
--- A phase between 0 and 2: its whole part is 0 or 1. Assumes nothing.
+-- A phase between 0 and 2: its whole part is 0 or 1.
 use mathlib.Core.Path.{◌≡◌, refl, sym, ap, ◌∙◌, subst}
 use mathlib.Core.Bool.{true, false, not}
 use Prim.Native.Nat.{ℕ, ◌+◌, ◌-◌, ◌*◌, ◌/◌, ◌^◌, ◌≤◌, ◌<◌}
@@ -7,9 +7,8 @@ use native.Mathlib.Omega.{arith}
 use lib.IntN.{pos}
 use lib.Dec.{T, T_not, lit≤, lit<}
 use lib.Ieee.{Float, nan, inf, fin, Format, binary32, fits, lt, sub, of_int, round}
-use lib.Ieee.Exact.{HasValue}
 use lib.Ieee.Positive.{num, den, den_pos}
-use Rattle.ieee.proofs.Tests.{null, two_to, yes, no}
+use Rattle.ieee.proofs.Tests.{null, two_to}
 use Rattle.ieee.proofs.Value.{lt-values, sub-values, value-self, two-to-value}
 use Rattle.ieee.proofs.Whole.{div_is, own}
 use Rattle.rounding.specs.Whole.{whole_of, cut}

@@ -1,5 +1,6 @@
 // The whole numbers near a float: floor, trunc and round, and what they leave over. From 2^23 on an f32 is whole, so y + 2^23 is y
 // rounded to the nearest whole number, and one comparison tells which neighbour is asked for: no call of the C library, and no cast.
+// std's methods of these names take up to twice as long: they round to the floor first, and copy the sign.
 #![tactic(auto)]
 
 ghost use Rattle.std.specs.Prelude.{◌≡◌, false, ◌+◌, ◌-◌, ◌*◌, ◌/◌, pos, T};
@@ -10,8 +11,8 @@ ghost use Rattle.rounding.specs.Whole.{floor_of, trunc_of, round_of, fract_of, w
 
 // The whole part of a y between 0 and 2^23.
 fn floor_above(y: f32) -> f32
-    requires fact_1 { T (Ieee.lt (fin false 0 (pos 0)) y) }
-    requires fact_2 { T (Ieee.lt y (fin false 1 (pos 23))) }
+    requires above_zero { T (Ieee.lt (fin false 0 (pos 0)) y) }
+    requires has_fraction { T (Ieee.lt y (fin false 1 (pos 23))) }
     ensures { result ≡ Ieee.of_int binary32 (pos (num y / den y)) }
 {
     let t = (y + 8388608.0) - 8388608.0;
@@ -20,8 +21,8 @@ fn floor_above(y: f32) -> f32
 
 // The next whole number from y up.
 fn ceil_above(y: f32) -> f32
-    requires fact_1 { T (Ieee.lt (fin false 0 (pos 0)) y) }
-    requires fact_2 { T (Ieee.lt y (fin false 1 (pos 23))) }
+    requires above_zero { T (Ieee.lt (fin false 0 (pos 0)) y) }
+    requires has_fraction { T (Ieee.lt y (fin false 1 (pos 23))) }
     ensures { result ≡ Ieee.of_int binary32 (pos ((num y + (den y - 1)) / den y)) }
 {
     let t = (y + 8388608.0) - 8388608.0;
@@ -30,17 +31,18 @@ fn ceil_above(y: f32) -> f32
 
 // The nearest whole number, a half up.
 fn round_above(y: f32) -> f32
-    requires fact_1 { T (Ieee.lt (fin false 0 (pos 0)) y) }
-    requires fact_2 { T (Ieee.lt y (fin false 1 (pos 23))) }
+    requires above_zero { T (Ieee.lt (fin false 0 (pos 0)) y) }
+    requires has_fraction { T (Ieee.lt y (fin false 1 (pos 23))) }
     ensures { result ≡ Ieee.of_int binary32 (pos ((2 * num y + den y) / (2 * den y))) }
 {
     let t = (y + 8388608.0) - 8388608.0;
     if y - t == 0.5 { t + 1.0 } else { t }
 }
 
+// The same for an f64. One function for both types would ask a trait with laws of five operators, which is longer than this.
 fn round_above_f64(y: f64) -> f64
-    requires fact_1 { T (Ieee.lt (fin false 0 (pos 0)) y) }
-    requires fact_2 { T (Ieee.lt y (fin false 1 (pos 52))) }
+    requires above_zero { T (Ieee.lt (fin false 0 (pos 0)) y) }
+    requires has_fraction { T (Ieee.lt y (fin false 1 (pos 52))) }
     ensures { result ≡ Ieee.of_int binary64 (pos ((2 * num y + den y) / (2 * den y))) }
 {
     let t = (y + 4503599627370496.0) - 4503599627370496.0;
@@ -52,27 +54,19 @@ pub fn floor(x: f32) -> f32
     ensures { result ≡ floor_of binary32 x }
 {
     if x > 0.0 {
-        if x < 8388608.0 {
-            return floor_above(x);
-        }
-        return x;
+        if x < 8388608.0 { floor_above(x) } else { x }
+    } else if x < 0.0 && x > -8388608.0 {
+        -ceil_above(-x)
+    } else {
+        x
     }
-    if x < 0.0 {
-        if x > -8388608.0 {
-            return -ceil_above(-x);
-        }
-    }
-    x
 }
 
 // x without its fraction, with its sign.
 pub fn trunc(x: f32) -> f32
     ensures { result ≡ trunc_of binary32 x }
 {
-    if x < 0.0 {
-        return -floor(-x);
-    }
-    floor(x)
+    if x < 0.0 { -floor(-x) } else { floor(x) }
 }
 
 // The nearest whole number, a half away from zero.
@@ -80,17 +74,12 @@ pub fn round(x: f32) -> f32
     ensures { result ≡ round_of binary32 x }
 {
     if x > 0.0 {
-        if x < 8388608.0 {
-            return round_above(x);
-        }
-        return x;
+        if x < 8388608.0 { round_above(x) } else { x }
+    } else if x < 0.0 && x > -8388608.0 {
+        -round_above(-x)
+    } else {
+        x
     }
-    if x < 0.0 {
-        if x > -8388608.0 {
-            return -round_above(-x);
-        }
-    }
-    x
 }
 
 pub fn round_f64(x: f64) -> f64
@@ -98,16 +87,15 @@ pub fn round_f64(x: f64) -> f64
 {
     if x > 0.0 {
         if x < 4503599627370496.0 {
-            return round_above_f64(x);
+            round_above_f64(x)
+        } else {
+            x
         }
-        return x;
+    } else if x < 0.0 && x > -4503599627370496.0 {
+        -round_above_f64(-x)
+    } else {
+        x
     }
-    if x < 0.0 {
-        if x > -4503599627370496.0 {
-            return -round_above_f64(-x);
-        }
-    }
-    x
 }
 
 // x - floor(x). A phase is nearly always between 0 and 2, where the floor is 0 or 1.
@@ -118,10 +106,8 @@ pub fn wrap(x: f32) -> f32
         if x > 0.0 {
             return x;
         }
-    } else {
-        if x < 2.0 {
-            return x - 1.0;
-        }
+    } else if x < 2.0 {
+        return x - 1.0;
     }
     x - floor(x)
 }
@@ -134,10 +120,8 @@ pub fn fract(x: f32) -> f32
         if x > 0.0 {
             return x;
         }
-    } else {
-        if x < 2.0 {
-            return x - 1.0;
-        }
+    } else if x < 2.0 {
+        return x - 1.0;
     }
     x - trunc(x)
 }

@@ -1,10 +1,12 @@
-// Checks 5, 6 and 7 of document 01, by the tables of the records' kinds and links.
+// Checks 5, 6 and 7, by the tables of the records' kinds and links.
 #![tactic(auto)]
 
-ghost use Rattle.std.specs.Prelude.{◌≡◌, true, cond, ℕ, ◌≤◌, ◌<◌, ltb, length};
-ghost use Rattle.sheet.specs.Kinds.{is_node};
+ghost use Rattle.std.specs.Prelude.{◌≡◌, ℕ, ◌≤◌, ◌<◌, ltb, length};
+ghost use Rattle.refusal.specs.Refusal.{answer_of};
 ghost use Rattle.sheet.specs.Checks.{sum};
 ghost use Rattle.sheet.specs.Links.{at, nodes_at, LinksIn, LinkedIn, once_in, depth_in, shape_in};
+
+use refusal::Refusal;
 
 // Counts in `hits` how many links lead to each record; a link of 0 counts at 0. Links lead up, so that a record's count is
 // whole at its turn. Record 0 has no next.
@@ -16,45 +18,44 @@ fn once_in(first: &[usize], next: &[usize], hits: &mut [u16]) -> bool
 {
     let root = first[0];
     hits[root] = 1;
-    let mut i = 1usize;
-    while i < first.len() {
+    for i in 1..first.len() {
         if hits[i] != 1 {
             return false;
         }
         let f = first[i];
-        hits[f] = hits[f] + 1;
+        hits[f] += 1;
         let x = next[i];
-        hits[x] = hits[x] + 1;
-        i += 1;
+        hits[x] += 1;
     }
     true
 }
 
-// Of at most 32 records, so that fewer counts are zeroed.
-fn once_few(first: &[usize], next: &[usize]) -> bool
+// With N counts.
+fn once_with<const N: usize>(first: &[usize], next: &[usize]) -> bool
     requires links_in { LinksIn first.now next.now }
-    requires in_bounds { (1 ≤ length first.now) × (length first.now ≤ 32) }
+    requires in_bounds { (1 ≤ length first.now) × (length first.now ≤ N) × (N ≤ 256) }
     ensures { result ≡ once_in first.now next.now }
 {
-    let mut hits = [0u16; 32];
+    let mut hits = [0u16; N];
     once_in(first, next, &mut hits)
 }
 
-// 5
+// 5. Of at most 32 records fewer counts are zeroed.
 fn once(first: &[usize], next: &[usize]) -> bool
     requires links_in { LinksIn first.now next.now }
     requires in_bounds { (1 ≤ length first.now) × (length first.now ≤ 256) }
     ensures { result ≡ once_in first.now next.now }
 {
     if first.len() <= 32 {
-        return once_few(first, next);
+        once_with::<32>(first, next)
+    } else {
+        once_with::<256>(first, next)
     }
-    let mut hits = [0u16; 256];
-    once_in(first, next, &mut hits)
 }
 
 // Whether nodes nest deeper than `room` from record `start` on: along the chain by a loop, into each node's own chain by
-// a call, which ends where there is no room left. Links climb, so what is left above the index falls.
+// a call, which ends where there is no room left. Links climb, so what is left above the index falls. The loop goes along
+// links, so it counts no index.
 fn deeper(kinds: &[u8], first: &[usize], next: &[usize], start: usize, room: usize) -> bool
     requires linked_in { LinkedIn kinds.now first.now next.now }
     requires start_in_bounds { start < length first.now }
@@ -75,20 +76,12 @@ fn deeper(kinds: &[u8], first: &[usize], next: &[usize], start: usize, room: usi
     false
 }
 
-fn node_or_none(k: u8) -> usize
-    ensures { (result ≡ cond (is_node k) 1 0) × (result ≤ 1) }
-{
-    if sheet::kinds::is_node(k) { 1 } else { 0 }
-}
-
 fn node_count(kinds: &[u8]) -> usize
     ensures { result ≡ sum (nodes_at (at kinds.now)) (length kinds.now) }
 {
     let mut n = 0usize;
-    let mut i = 0usize;
-    while i < kinds.len() {
-        n += node_or_none(kinds[i]);
-        i += 1;
+    for i in 0..kinds.len() {
+        n += usize::from(sheet::kinds::is_node(kinds[i]));
     }
     n
 }
@@ -109,18 +102,19 @@ fn too_deep(kinds: &[u8], first: &[usize], next: &[usize]) -> bool
 }
 
 // 5, 6 and 7, by the tables
-pub fn shape(kinds: &[u8], first: &[usize], next: &[usize]) -> u8
+pub fn shape(kinds: &[u8], first: &[usize], next: &[usize]) -> Result<(), Refusal>
     requires links_in { LinksIn first.now next.now }
     requires kinds_len { (length kinds.now ≡ length first.now) × (1 ≤ length first.now) × (length first.now ≤ 256) }
-    ensures { result ≡ shape_in kinds.now first.now next.now }
+    ensures { answer_of result ≡ shape_in kinds.now first.now next.now }
 {
-    if once(first, next) {
-        if chains::chains_ok(kinds, first, next) & sheet::kinds::is_node(kinds[0]) {
-            if too_deep(kinds, first, next) { 7 } else { 0 }
-        } else {
-            6
-        }
-    } else {
-        5
+    if !once(first, next) {
+        return Err(Refusal::Linked);
     }
+    if !(chains::chains_ok(kinds, first, next) & sheet::kinds::is_node(kinds[0])) {
+        return Err(Refusal::Chain);
+    }
+    if too_deep(kinds, first, next) {
+        return Err(Refusal::Depth);
+    }
+    Ok(())
 }

@@ -1,5 +1,5 @@
--- Checks 3 and 4, record by record. THE INVARIANT of a loop that fills the tables: below i they hold the records' kinds and links, and two tests say whether every record below i passed, and every link.
-use Rattle.std.specs.Prelude.{◌≡◌, refl, Bool, true, List, ℕ, ◌+◌, ◌<◌, length, set}
+-- Checks 3 and 4, record by record. THE INVARIANT of a loop that fills the tables: below i they hold the records' kinds and links, and the answer is what the records below i and their links say.
+use Rattle.std.specs.Prelude.{◌≡◌, refl, Bool, List, ℕ, ◌+◌, ◌<◌, length, set}
 use Rattle.std.proofs.Math.Path.{sym, ap, ap₂}
 use Rattle.std.proofs.Common.{◌∙◌, arith}
 use Rattle.std.proofs.Math.Bool.{cond, ◌&&◌}
@@ -12,34 +12,40 @@ use Rattle.sheet.specs.Below.{Below, below-start, below-turn}
 abbrev right : List ℕ → ℕ → Bool
 right s i = record_ok (of.record_at s i)
 
-pub record Read (s ks₀ fs₀ ns₀ ks fs ns : List ℕ) (records links : Bool) (i : ℕ) : Type 0 where
+-- 3 where a record failed, else 4 where a link did
+abbrev pub fault : Bool → Bool → ℕ
+fault records links = cond records (cond links 0 4) 3
+
+pub record Read (s ks₀ fs₀ ns₀ ks fs ns : List ℕ) (a i : ℕ) : Type 0 where
   pub kinds_in : Below (of.kind s) ks₀ ks i
   pub first_in : Below (of.first s) fs₀ fs i
   pub next_in : Below (of.next s) ns₀ ns i
-  pub records_is : records ≡ all (right s) i
-  pub links_is : links ≡ all (links_ok s) i
+  pub answer : a ≡ fault (all (right s) i) (all (links_ok s) i)
 
-pub read-start : (s ks fs ns : List ℕ) → Read s ks fs ns ks fs ns true true 0
+pub read-start : (s ks fs ns : List ℕ) → Read s ks fs ns ks fs ns 0 0
 unfolding all
-read-start s ks fs ns = record { kinds_in = below-start _ ks; first_in = below-start _ fs; next_in = below-start _ ns; records_is = refl; links_is = refl }
+read-start s ks fs ns = record { kinds_in = below-start _ ks; first_in = below-start _ fs; next_in = below-start _ ns; answer = refl }
 
-module _ {s ks₀ fs₀ ns₀ ks fs ns : List ℕ} {records links : Bool} {i : ℕ} (l : Read s ks₀ fs₀ ns₀ ks fs ns records links i) where
+module _ {s ks₀ fs₀ ns₀ ks fs ns : List ℕ} {a i : ℕ} (l : Read s ks₀ fs₀ ns₀ ks fs ns a i) where
+  -- a turn whose record and links are looked at leaves the answer that both make with those before them
   pub read-turn : i < length ks₀ → i < length fs₀ → i < length ns₀
       → {n k f x : ℕ} → n ≡ of.count_of s → k ≡ of.kind s i → f ≡ of.first s i → x ≡ of.next s i
-      → {a b : Bool} → a ≡ record_ok (of.record_at s i) → b ≡ links_at n i f x
-      → Read s ks₀ fs₀ ns₀ (set ks i k) (set fs i f) (set ns i x) (records && a) (links && b) (i + 1)
+      → {p q : Bool} → p ≡ record_ok (of.record_at s i) → q ≡ links_at n i f x
+      → {b : ℕ} → ((y z : Bool) → a ≡ fault y z → b ≡ fault (y && p) (z && q))
+      → Read s ks₀ fs₀ ns₀ (set ks i k) (set fs i f) (set ns i x) b (i + 1)
   unfolding links_at links_ok
-  read-turn hk hf hn en ek ef ex ea eb = record {
+  read-turn hk hf hn en ek ef ex ep eq h = record {
     kinds_in = below-turn l.kinds_in hk ek;
     first_in = below-turn l.first_in hf ef;
     next_in = below-turn l.next_in hn ex;
-    records_is = ap₂ ◌&&◌ l.records_is ea ∙ sym (all-suc (right s) i);
-    links_is = ap₂ ◌&&◌ l.links_is (eb ∙ rw (en, ef, ex)) ∙ sym (all-suc (links_ok s) i);
+    answer = h (all (right s) i) (all (links_ok s) i) l.answer
+        ∙ ap₂ fault (ap (λ (t : Bool). all (right s) i && t) ep ∙ sym (all-suc (right s) i))
+        (ap (λ (t : Bool). all (links_ok s) i && t) (eq ∙ rw (en, ef, ex)) ∙ sym (all-suc (links_ok s) i));
   }
 
-  pub read_done : i ≡ of.count_of s → {r : ℕ} → cond records (cond links 0 4) 3 ≡ r → Decoded s ks fs ns r
+  pub read_done : i ≡ of.count_of s → Decoded s ks fs ns a
   unfolding lowest
-  read_done d q = record {
-    answer = sym q ∙ ap₂ (λ (a b : Bool). cond a (cond b 0 4) 3) (l.records_is ∙ ap (all (right s)) d) (l.links_is ∙ ap (all (links_ok s)) d);
+  read_done d = record {
+    answer = l.answer ∙ ap₂ fault (ap (all (right s)) d) (ap (all (links_ok s)) d);
     tables = record { kind_at = λ k h. l.kinds_in.is k (omega arith); first_at = λ k h. l.first_in.is k (omega arith); next_at = λ k h. l.next_in.is k (omega arith) };
   }

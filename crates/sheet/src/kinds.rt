@@ -1,7 +1,7 @@
 // The table of kinds, by number: how many options a kind has, how many of its eight numbers it uses, what its chain
 // holds (0 nothing, 1 one value, 2 two values, 3 nodes, 4 modes, 5 steps), and what it is itself, by the code of the
 // chains that hold it (2 a value, 3 a node, 4 a mode, 5 a step). A number that is no kind's has zeros.
-ghost use Rattle.std.specs.Prelude.{◌≡◌, ◌≤◌};
+ghost use Rattle.std.specs.Prelude.{◌≡◌, ◌≤◌, get_or};
 ghost use Rattle.sheet.specs.Kinds.{row_of, is_node, is_processor};
 ghost use Rattle.sheet.specs.Codes.{chain_of, class_of, options_table, numbers_table, chains_table, classes_table};
 
@@ -230,36 +230,39 @@ pub const CLASSES: [u8; 53] = [
 ];
 
 // A table is lent, since a constant array that is indexed is laid out anew at each use.
+fn entry(table: &[u8; 53], k: u8) -> u8
+    ensures { result ≡ get_or table.now k 0 }
+{
+    let i = usize::from(k);
+    if i < 53 { table[i] } else { 0 }
+}
+
 pub fn options(table: &[u8; 53], k: u8) -> u8
     requires { table.now ≡ options_table }
     ensures { result ≡ (row_of k).options }
 {
-    let i = k as usize;
-    if i < 53 { table[i] } else { 0 }
+    entry(table, k)
 }
 
 pub fn numbers(table: &[u8; 53], k: u8) -> u8
     requires { table.now ≡ numbers_table }
     ensures { (result ≡ (row_of k).numbers) × (result ≤ 7) }
 {
-    let i = k as usize;
-    if i < 53 { table[i] } else { 0 }
+    entry(table, k)
 }
 
 pub fn chain(table: &[u8; 53], k: u8) -> u8
     requires { table.now ≡ chains_table }
     ensures { (chain_of result ≡ (row_of k).chain) × (result ≤ 5) }
 {
-    let i = k as usize;
-    if i < 53 { table[i] } else { 0 }
+    entry(table, k)
 }
 
 pub fn class(table: &[u8; 53], k: u8) -> u8
     requires { table.now ≡ classes_table }
     ensures { result ≡ class_of k }
 {
-    let i = k as usize;
-    if i < 53 { table[i] } else { 0 }
+    entry(table, k)
 }
 
 // Processors are 21 to 35, and with 1 to 13 they are the nodes.

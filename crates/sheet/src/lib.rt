@@ -7,34 +7,37 @@ pub mod kinds;
 ghost use Rattle.std.specs.Prelude.{◌≡◌, ◌+◌, ◌*◌, ◌≤◌, ◌<◌, length};
 ghost use Rattle.sheet.specs.Bytes.{u16_at, u32_at, u64_at};
 ghost use Rattle.sheet.specs.Record.{count_of, rate_of, length_of, path_of, kind_of, option_of, first_of, next_of, bits_of, number_of, seed_of, kind as record_kind};
-ghost use Rattle.sheet.specs.Value.{value_of};
-
-fn wide(x: u8) -> u32
-    ensures { (result ≡ x) × (result < 256) }
-{
-    x as u32
-}
+ghost use Rattle.sheet.specs.Value.{adsr_in, value_of};
 
 // Two, four and eight bytes as a number, the lowest first.
 pub fn half(s: &[u8], at: usize) -> u32
     requires { at + 2 ≤ length s.now }
     ensures { (result ≡ u16_at s.now at) × (result < 65536) }
 {
-    wide(s[at]) + 256 * wide(s[at + 1])
+    u32::from(u16::from_le_bytes([s[at], s[at + 1]]))
 }
 
 fn word(s: &[u8], at: usize) -> u32
     requires { at + 4 ≤ length s.now }
     ensures { result ≡ u32_at s.now at }
 {
-    half(s, at) + 65536 * half(s, at + 2)
+    u32::from_le_bytes([s[at], s[at + 1], s[at + 2], s[at + 3]])
 }
 
 pub fn double(s: &[u8], at: usize) -> u64
     requires { at + 8 ≤ length s.now }
     ensures { result ≡ u64_at s.now at }
 {
-    (word(s, at) as u64) + 4294967296 * (word(s, at + 4) as u64)
+    u64::from_le_bytes([
+        s[at],
+        s[at + 1],
+        s[at + 2],
+        s[at + 3],
+        s[at + 4],
+        s[at + 5],
+        s[at + 6],
+        s[at + 7],
+    ])
 }
 
 // ---- the header
@@ -138,75 +141,60 @@ pub fn seed(r: &[u8]) -> u64
 #[derive(Clone, Copy)]
 pub enum Value {
     Const(f32),
-    Slide {
-        from: f32,
-        to: f32,
-        secs: f32,
-        curve: dsl::Curve,
-    },
-    Lfo {
-        shape: dsl::Shape,
-        rate: f32,
-        depth: f32,
-        center: f32,
-    },
-    Arp {
-        rate: f32,
-        first: usize,
-    },
-    EnvMod {
-        a: f32,
-        d: f32,
-        s: f32,
-        r: f32,
-        punch: f32,
-        from: f32,
-        to: f32,
-    },
-    Rand {
-        from: f32,
-        to: f32,
-        rate: f32,
-    },
+    Slide(dsl::Slide),
+    Lfo(dsl::Lfo),
+    Arp { rate: f32, first: usize },
+    EnvMod(dsl::EnvMod),
+    Rand(dsl::Rand),
+}
+
+// An envelope is the first five numbers of its record.
+pub fn adsr(r: &[u8]) -> dsl::Adsr
+    requires { 40 ≤ length r.now }
+    ensures { result ≡ adsr_in r.now }
+{
+    dsl::Adsr {
+        a: number(r, 0),
+        d: number(r, 1),
+        s: number(r, 2),
+        r: number(r, 3),
+        punch: number(r, 4),
+    }
 }
 
 // A kind that is no value's reads as a Const.
+#[tactic(auto, unfolding(crate::specs::Value::value_of))]
 pub fn read_value(r: &[u8]) -> Value
     requires { 40 ≤ length r.now }
     ensures { result ≡ value_of r.now }
 {
-    let k = kind(r);
-    match k {
-        42 => Value::Slide {
+    match kind(r) {
+        42 => Value::Slide(dsl::Slide {
             from: number(r, 0),
             to: number(r, 1),
             secs: number(r, 2),
-            curve: dsl::curve_of(option(r)),
-        },
-        43 => Value::Lfo {
-            shape: dsl::shape_of(option(r)),
+            curve: dsl::Curve::from(option(r)),
+        }),
+        43 => Value::Lfo(dsl::Lfo {
+            shape: dsl::Shape::from(option(r)),
             rate: number(r, 0),
             depth: number(r, 1),
             center: number(r, 2),
-        },
+        }),
         44 => Value::Arp {
             rate: number(r, 0),
             first: first(r),
         },
-        45 => Value::EnvMod {
-            a: number(r, 0),
-            d: number(r, 1),
-            s: number(r, 2),
-            r: number(r, 3),
-            punch: number(r, 4),
+        45 => Value::EnvMod(dsl::EnvMod {
+            env: adsr(r),
             from: number(r, 5),
             to: number(r, 6),
-        },
-        46 => Value::Rand {
+        }),
+        46 => Value::Rand(dsl::Rand {
             from: number(r, 0),
             to: number(r, 1),
             rate: number(r, 2),
-        },
+        }),
         _ => Value::Const(number(r, 0)),
     }
 }

@@ -1,6 +1,7 @@
 -- Impact and Env for one sample as steps of a block: the sample is at the position t + k.
 use Rattle.std.specs.Prelude.{List, ℕ, ◌+◌, Float}
 use Rattle.block.specs.Iterate.{at}
+use Rattle.dsl.specs.declared.Adsr.{Adsr}
 use Rattle.envelope.specs.Envelope.{adsr_of}
 use Rattle.value.specs.Modulators.{seconds_of}
 use Rattle.unpitched.specs.Others.{impact_of, env_of}
@@ -8,12 +9,12 @@ use Rattle.unpitched.specs.Others.{impact_of, env_of}
 unfoldable pub impact_step : ℕ → Float → ℕ → ℕ → Unit {0} → Float × Unit {0}
 impact_step w norm t k s = (impact_of w norm (t + k), s)
 
-unfoldable pub env_step : Float → Float → Float → Float → Float → Float → Float → ℕ → ℕ → Unit {0} → Float × Unit {0}
-env_step a d s r punch srf relStart t k u = (env_of a d s r punch srf relStart (t + k), u)
+unfoldable pub env_step : Adsr → Float → Float → ℕ → ℕ → Unit {0} → Float × Unit {0}
+env_step e srf relStart t k s = (env_of e srf relStart (t + k), s)
 
 -- its passes: the seconds; the envelope at the seconds ys
 unfoldable pub seconds_step : Float → ℕ → ℕ → Unit {0} → Float × Unit {0}
-seconds_step srf t k u = (seconds_of (t + k) srf, u)
+seconds_step srf t k s = (seconds_of (t + k) srf, s)
 
-unfoldable pub env_level_step : List Float → Float → Float → Float → Float → Float → Float → ℕ → Unit {0} → Float × Unit {0}
-env_level_step ys a d s r punch relStart k u = (adsr_of (at ys k) a d s r punch relStart, u)
+unfoldable pub env_level_step : List Float → Adsr → Float → ℕ → Unit {0} → Float × Unit {0}
+env_level_step ys e relStart k s = (adsr_of e (at ys k) relStart, s)

@@ -1,4 +1,4 @@
 pub mod Squares
+pub mod Twice
 pub mod Scaled
-pub mod Casts
 pub mod Roots

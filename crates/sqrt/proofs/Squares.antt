@@ -1,5 +1,5 @@
--- Squares of whole numbers, and the whole root. Assumes nothing.
-use Rattle.std.proofs.Common.{◌≡◌, ℕ, zero, suc, ◌+◌, ◌-◌, ◌*◌, ◌/◌, ◌%◌, ◌^◌, ◌<◌, ◌≤◌, Bool, true, false, cond, not, T, leb, sym, refl, ap, ◌∙◌, subst, le_trans, le_of_eq, lt_of_lt_of_le, lt_of_le_of_lt, div-lt_iff_lt-mul, add-mul, mul-le-mul, le_antisymm, lt_of_not-le, mul-add, not-le_of_lt, arith, le→leb, leb→le, pow_pos, pow-add}
+-- Squares of whole numbers, and the whole root.
+use Rattle.std.proofs.Common.{◌≡◌, ℕ, zero, suc, ◌+◌, ◌-◌, ◌*◌, ◌/◌, ◌^◌, ◌<◌, ◌≤◌, Bool, true, false, cond, not, T, leb, sym, refl, ap, ◌∙◌, subst, le_trans, le_of_eq, lt_of_lt_of_le, lt_of_le_of_lt, div-lt_iff_lt-mul, add-mul, mul-le-mul, le_antisymm, lt_of_not-le, mul-add, not-le_of_lt, arith, le→leb, leb→le, pow_pos}
 use native.Mathlib.Nat.{mul-mul-mul_comm}
 use lib.Dec.{nleb→lt}
 use lib.Arith.{lt→nleb}
@@ -83,30 +83,6 @@ near_up n s h r l = ap (λ (t : ℕ). cond (leb n (t * t + t)) t (t + 1)) (root-
     go : (b : Bool) → T (not b) → cond b s (s + 1) ≡ s + 1
     go true t = absurd t
     go false t = refl
-
--- ---- bounds: a root of a number of 47 or 48 digits has 24
-pub sq-24 : (a : ℕ) → a * a < 2 ^ 48 → a < 2 ^ 24
-sq-24 a h = sq-back a (2 ^ 24) h
-
-pub sq-fits : (a : ℕ) → a ≤ 2 ^ 24 + 1 → a * a < 2 ^ 64
-sq-fits a h = lt_of_le_of_lt (sq-mono h) (lib.Dec.lit< tt)
-
-pub root-lt : (n s : ℕ) → n < 2 ^ 48 → Root n s → s < 2 ^ 24
-root-lt n s h r = sq-24 s (lt_of_le_of_lt r.0 h)
-
-pub root_ge : (n s : ℕ) → 2 ^ 46 ≤ n → Root n s → 2 ^ 23 ≤ s
-root_ge n s h r = go s (sq-back (2 ^ 23) (s + 1) (lt_of_le_of_lt h r.1))
-  where
-    go : (s : ℕ) → 2 ^ 23 < s + 1 → 2 ^ 23 ≤ s
-    go s h = omega arith
-
--- ---- the loops of `whole_root`
-pub some_left : (n s : ℕ) → n < s * s → 1 ≤ s
-some_left n zero h = absurd (go n h)
-  where
-    go : (n : ℕ) → n < 0 → ⊥
-    go n h = omega arith
-some_left n (suc s) h = native.Mathlib.Nat.zero-lt-suc s
 
 -- ---- what `nearest_root` means, and that nothing else does
 pub near-is : (n : ℕ) → n < 2 ^ 48 → IsRoot n (nearest_root n)

@@ -16,6 +16,7 @@ fn modal(sheet: &[u8], count: usize, nexts: &[usize], f: usize, own: &mut [f32])
     ensures { own.new ≡ modal_start sheet.now (spine (records sheet.now f)) }
 {
     let rate = sheet::rate(sheet);
+    // The walk goes by links, as `layout::chain_length` does.
     let mut at = 0usize;
     let mut j = f;
     while j != 0 {
@@ -75,16 +76,6 @@ pub fn cells(
     }
 }
 
-fn zero_words(own: &mut [u64])
-    ensures { own.new ≡ replicate (length own.old) 0 }
-{
-    let mut k = 0usize;
-    while k < own.len() {
-        own[k] = 0;
-        k += 1;
-    }
-}
-
 fn seed_register(key: u64, own: &mut [u64])
     requires { length own.old ≡ 1 }
     ensures { own.new ≡ seed_of key ∷ [] }
@@ -112,6 +103,6 @@ pub fn registers(sheet: &[u8], i: usize, k: u8, key: u64, own: &mut [u64])
             let a = 24 + 40 * i;
             rand_register(&sheet[a..], own)
         }
-        _ => zero_words(own),
+        _ => own.fill(0),
     }
 }

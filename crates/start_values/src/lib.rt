@@ -2,12 +2,14 @@
 #![tactic(auto)]
 
 ghost use Rattle.std.specs.Prelude.{◌≡◌, ◌*◌, ◌≤◌, length};
-ghost use Rattle.tree.specs.Block.{tab};
 ghost use Rattle.rng.specs.Random.{stepped, range_of};
 ghost use Rattle.dsp.specs.Coefficients.{modal_of};
 ghost use Rattle.sheet.specs.Record.{number_of};
 ghost use Rattle.layout.specs.Needs.{voices_of};
 ghost use Rattle.unit.specs.Start.{start_phase, detune, start_ratio, super_start, filter_start, at_rest, drive_start, compress_start, rand_word, rand_start};
+
+use dsl::DriveShape;
+use rng::Rng;
 
 // ---- Super: a phase for each voice, then a ratio for each
 
@@ -15,17 +17,6 @@ fn phase(n: u64, k: u64) -> f32
     ensures { result ≡ start_phase n k }
 {
     cast::u64_to_f32(k) / cast::u64_to_f32(n)
-}
-
-fn phases(own: &mut [f32], n: u64)
-    requires { length own.old ≤ 16 }
-    ensures { own.new ≡ tab (length own.old) (start_phase n) }
-{
-    let mut k = 0usize;
-    while k < own.len() {
-        own[k] = phase(n, k as u64);
-        k += 1;
-    }
 }
 
 // In cents: from -cents to +cents over the voices.
@@ -44,17 +35,6 @@ fn ratio(n: u64, cents: f32, k: u64) -> f32
     dsp::powf(2.0, detuned(n, cents, k) / 1200.0)
 }
 
-fn ratios(own: &mut [f32], n: u64, cents: f32)
-    requires { length own.old ≤ 16 }
-    ensures { own.new ≡ tab (length own.old) (start_ratio n cents) }
-{
-    let mut k = 0usize;
-    while k < own.len() {
-        own[k] = ratio(n, cents, k as u64);
-        k += 1;
-    }
-}
-
 pub fn super_start(r: &[u8], own: &mut [f32])
     requires { (40 ≤ length r.now) × (length own.old ≡ 2 * voices_of r.now) }
     ensures { own.new ≡ super_start (voices_of r.now) (number_of r.now 1) }
@@ -62,8 +42,10 @@ pub fn super_start(r: &[u8], own: &mut [f32])
     let n = layout::voices(sheet::bits(r, 0));
     let cents = sheet::number(r, 1);
     let m = n as usize;
-    phases(&mut own[..m], n);
-    ratios(&mut own[m..], n, cents);
+    block::run_block(&mut own[..m], (), |k, s, _x| (phase(n, k as u64), s));
+    block::run_block(&mut own[m..], (), |k, s, _x| {
+        (ratio(n, cents, k as u64), s)
+    });
 }
 
 // ---- the kinds of a fixed number of cells
@@ -83,7 +65,7 @@ pub fn drive(option: u8, own: &mut [f32])
     ensures { own.new ≡ drive_start option }
 {
     block::fill_block(own, 0.0);
-    own[1] = drive::drive_antideriv(0.0, dsl::drive_shape_of(option));
+    own[1] = drive::drive_antideriv(0.0, DriveShape::from(option));
 }
 
 // The follower's coefficients, and the makeup from decibels.
@@ -117,14 +99,15 @@ pub fn rand_draws(r: &[u8]) -> Draws
         sheet::bits(r, 1),
         sheet::bits(r, 2),
     );
+    let mut rng = Rng { state: seed };
     let from = sheet::number(r, 0);
     let to = sheet::number(r, 1);
-    let a = rng::range(seed, from, to);
-    let b = rng::range(a.state, from, to);
+    let prev = rng.range(from, to);
+    let next = rng.range(from, to);
     Draws {
-        prev: a.x,
-        next: b.x,
-        word: b.state,
+        prev,
+        next,
+        word: rng.state,
     }
 }
 

@@ -50,12 +50,10 @@ pub fn cells(
     requires { Passed sheet.now count × Table (first sheet.now) count firsts.now × Table (next sheet.now) count nexts.now × Table (λ j. role_code (role sheet.now j)) count acts.now × Table (cells_from sheet.now) (count + 1) places.now × (cells_from sheet.now count ≤ length cells.old) }
     ensures { cells.new ≡ started_cells sheet.now count ++ drop (cells_from sheet.now count) cells.old }
 {
-    let mut i = 0usize;
-    while i < count {
+    for i in 0..count {
         let a = places[i];
         let e = places[i + 1];
         record_cells(sheet, count, firsts, nexts, acts[i], i, &mut cells[a..e]);
-        i += 1;
     }
 }
 
@@ -70,11 +68,9 @@ pub fn registers(
     requires { Passed sheet.now count × Table (λ j. role_code (role sheet.now j)) count acts.now × Table (registers_from sheet.now) (count + 1) words.now × Table (path sheet.now) count paths.now × (registers_from sheet.now count ≤ length regs.old) }
     ensures { regs.new ≡ started_registers sheet.now count ++ drop (registers_from sheet.now count) regs.old }
 {
-    let mut i = 0usize;
-    while i < count {
+    for i in 0..count {
         let a = words[i];
         let e = words[i + 1];
         record_registers(sheet, count, acts[i], paths[i], i, &mut regs[a..e]);
-        i += 1;
     }
 }

@@ -47,11 +47,9 @@ pub fn set_cutoff(
     requires { Passed sheet.now count × Table (λ j. role_code (role sheet.now j)) count acts.now × Table (cells_from sheet.now) (count + 1) places.now × (cells_from sheet.now count ≤ length cells.old) }
     ensures { cells.new ≡ scaled sheet.now x (count_of sheet.now) cells.old }
 {
-    let mut i = 0usize;
-    while i < count {
+    for i in 0..count {
         let k = sheet::kind_at(sheet, i);
         scale(acts[i], k, places[i], x, cells);
-        i += 1;
     }
 }
 

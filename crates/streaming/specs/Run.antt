@@ -7,15 +7,12 @@ use Rattle.tree.specs.Lists.{map-const}
 use Rattle.block.specs.Patch.{source}
 use Rattle.control.specs.declared.Controls.{Controls}
 use Rattle.control.specs.Moves.{moved}
-use Rattle.sheet.specs.Record.{count_of, next}
-use Rattle.layout.specs.Built.{role, begin, after}
-use Rattle.layout.specs.Needs.{cells_from, registers_from, scratch_from}
-use Rattle.layout.specs.Tables.{Table, role_code}
+use Rattle.sheet.specs.Record.{count_of}
+use Rattle.layout.specs.Needs.{scratch_from}
 use Rattle.layout.proofs.Laws.{playable}
 use Rattle.unit.specs.Own.{Own, silence}
 use Rattle.unit.specs.Voice.{voice}
-use Rattle.unit.specs.Block.{Pitched}
-use Rattle.walk.specs.Walk.{Voiced, Ready, Scratch, Sound, Sourced, sound-after}
+use Rattle.walk.specs.Walk.{Voiced, Sound, Sourced, sound-after}
 use Rattle.machine.specs.Machine.{State, state, samples}
 use Rattle.machine.specs.Samples.{tick}
 use Rattle.machine.proofs.Samples.{samples-add, source-samples}
@@ -23,37 +20,6 @@ use Rattle.machine.proofs.Samples.{samples-add, source-samples}
 -- l numbers hold every block of n samples
 pub record Buffer (n l : ℕ) : Type 0 where
   pub enough : (m : ℕ) → m ≤ 256 → m ≤ n → m ≤ l
-
--- an accepted sheet with its tables, and enough scratch
-pub record Set (s : List ℕ) (count : ℕ) (nexts acts begins afters places words blocks : List ℕ) (ns : ℕ) : Type 0 where
-  pub voiced : Voiced s count
-  pub next_at : Table (next s) count nexts
-  pub act_at : Table (λ j. role_code (role s j)) count acts
-  pub begin_at : Table (begin s) count begins
-  pub after_at : Table (after s) count afters
-  pub cells_at : Table (cells_from s) (count + 1) places
-  pub registers_at : Table (registers_from s) (count + 1) words
-  pub scratch : Scratch s count blocks ns
-
-pub set_same : {s : List ℕ} {count : ℕ} {nexts acts begins afters places words blocks : List ℕ} {ns : ℕ} → Set s count nexts acts begins afters places words blocks ns → {ms : ℕ} → ms ≡ ns → Set s count nexts acts begins afters places words blocks ms
-set_same x p = rw p x
-
-pub ready_of : {s : List ℕ} {count : ℕ} {nexts acts begins afters places words blocks : List ℕ} {ns : ℕ} → Set s count nexts acts begins afters places words blocks ns
-    → {c : Controls} {pitch : List Float} {n nv nw : ℕ} → Pitched c pitch n → n ≤ 256 → c.position + n ≤ 2 ^ 62 → nv ≡ n → nw ≡ n → Ready s count nexts acts begins afters places words c pitch n nv nw
-ready_of x p h e q r = record {
-  voiced = x.voiced;
-  next_at = x.next_at;
-  act_at = x.act_at;
-  begin_at = x.begin_at;
-  after_at = x.after_at;
-  cells_at = x.cells_at;
-  registers_at = x.registers_at;
-  pitched = p;
-  short = h;
-  early = omega (arith, e);
-  first_buffer = q;
-  second_buffer = r;
-}
 
 -- n samples from the controls c: ys, and r, ds and ss are left
 pub record Blocked (s : List ℕ) (n : ℕ) (c : Controls) (cs : List Float) (rs : List ℕ) (zs : List Float) (r : Controls) (ys ds : List Float) (ss : List ℕ) (ws : List Float) : Type 0 where
@@ -63,7 +29,7 @@ pub record Blocked (s : List ℕ) (n : ℕ) (c : Controls) (cs : List Float) (rs
   pub sound : Sound s ds ss
 
 -- a block of the walk from record 0
-pub blocked : {s : List ℕ} {count : ℕ} → Voiced s count → (c : Controls) (xs cs : List Float) (rs : List ℕ) (zs ys ds : List Float) (ss : List ℕ) (ws : List Float) (n : ℕ) → length xs ≡ n → Sound s cs rs
+pub blocked : {s : List ℕ} → Voiced s → (c : Controls) (xs cs : List Float) (rs : List ℕ) (zs ys ds : List Float) (ss : List ℕ) (ws : List Float) (n : ℕ) → length xs ≡ n → Sound s cs rs
     → Sourced s 0 (moved c) (map (λ x. silence) xs) cs rs zs ys ds ss ws → Blocked s n c cs rs zs (later tick n c) ys ds ss ws
 blocked {s} v c xs cs rs zs ys ds ss ws n l a r =
     let p = playable s v.passed.passed in

@@ -2,20 +2,16 @@
 #![tactic(auto)]
 
 ghost use Rattle.std.specs.Prelude.{◌≡◌, ◌+◌, ◌^◌, ◌≤◌, ◌<◌, length};
+ghost use Rattle.sheet.specs.Record.{count_of};
+ghost use Rattle.layout.specs.Needs.{scratch_from};
 ghost use Rattle.walk.specs.Walk.{Sound};
-ghost use Rattle.streaming.specs.Run.{Set, Blocked, Buffer};
+ghost use Rattle.streaming.specs.Run.{Blocked, Buffer};
+
+use plan::Plan;
 
 // One block: v, w and pitch are buffers of its length.
 fn block(
-    sheet: &[u8],
-    count: usize,
-    nexts: &[usize],
-    acts: &[u8],
-    begins: &[usize],
-    afters: &[usize],
-    places: &[usize],
-    words: &[usize],
-    blocks: &[usize],
+    plan: &Plan<'_>,
     c: control::Controls,
     out: &mut [f32],
     v: &mut [f32],
@@ -25,21 +21,13 @@ fn block(
     regs: &mut [u64],
     scr: &mut [f32],
 ) -> control::Controls
-    requires { Set sheet.now count nexts.now acts.now begins.now afters.now places.now words.now blocks.now (length scr.old) × Sound sheet.now cells.old regs.old × (length out.old ≤ 256) × (length v.old ≡ length out.old) × (length w.old ≡ length out.old) × (length pitch.old ≡ length out.old) × (c.position + length out.old ≤ 2 ^ 62) }
-    ensures { (result.position ≡ c.position + length out.old) × Blocked sheet.now (length out.old) c cells.old regs.old scr.old result out.new cells.new regs.new scr.new }
+    requires { (scratch_from plan.now.sheet.now (count_of plan.now.sheet.now) ≤ length scr.old) × Sound plan.now.sheet.now cells.old regs.old × (length out.old ≤ 256) × (length v.old ≡ length out.old) × (length w.old ≡ length out.old) × (length pitch.old ≡ length out.old) × (c.position + length out.old ≤ 2 ^ 62) }
+    ensures { (result.position ≡ c.position + length out.old) × Blocked plan.now.sheet.now (length out.old) c cells.old regs.old scr.old result out.new cells.new regs.new scr.new }
 {
     let r = glide::glide_block(c, pitch);
     block::fill_block(out, 0.0);
     walk::source(
-        sheet,
-        count,
-        nexts,
-        acts,
-        begins,
-        afters,
-        places,
-        words,
-        blocks,
+        plan,
         0,
         glide::glide_on(c),
         out,
@@ -56,20 +44,12 @@ fn block(
 fn chunk(n: usize) -> usize
     ensures { (result ≤ n) × (result ≤ 256) × (0 < n → 0 < result) }
 {
-    if n < 256 { n } else { 256 }
+    n.min(256)
 }
 
 // As many samples as out has; v, w and pitch are buffers that hold a block of them.
 pub fn run(
-    sheet: &[u8],
-    count: usize,
-    nexts: &[usize],
-    acts: &[u8],
-    begins: &[usize],
-    afters: &[usize],
-    places: &[usize],
-    words: &[usize],
-    blocks: &[usize],
+    plan: &Plan<'_>,
     first: control::Controls,
     out: &mut [f32],
     v: &mut [f32],
@@ -79,24 +59,17 @@ pub fn run(
     regs: &mut [u64],
     scr: &mut [f32],
 ) -> control::Controls
-    requires { Set sheet.now count nexts.now acts.now begins.now afters.now places.now words.now blocks.now (length scr.old) × Sound sheet.now cells.old regs.old × Buffer (length out.old) (length v.old) × Buffer (length out.old) (length w.old) × Buffer (length out.old) (length pitch.old) × (first.position + length out.old ≤ 2 ^ 62) }
-    ensures { Blocked sheet.now (length out.old) first cells.old regs.old scr.old result out.new cells.new regs.new scr.new }
+    requires { (scratch_from plan.now.sheet.now (count_of plan.now.sheet.now) ≤ length scr.old) × Sound plan.now.sheet.now cells.old regs.old × Buffer (length out.old) (length v.old) × Buffer (length out.old) (length w.old) × Buffer (length out.old) (length pitch.old) × (first.position + length out.old ≤ 2 ^ 62) }
+    ensures { Blocked plan.now.sheet.now (length out.old) first cells.old regs.old scr.old result out.new cells.new regs.new scr.new }
 {
+    // A loop over `chunks_mut` is no plainer: its chunks are of `out` alone, and three buffers are cut to the same length.
     let mut c = first;
     let mut d: usize = 0;
     while d < out.len() {
         let m = chunk(out.len() - d);
         let e = d + m;
         c = block(
-            sheet,
-            count,
-            nexts,
-            acts,
-            begins,
-            afters,
-            places,
-            words,
-            blocks,
+            plan,
             c,
             &mut out[d..e],
             &mut v[..m],

@@ -1,13 +1,21 @@
 -- What the call `needs` answers: the lowest of checks 1 to 7 that applies, with zeros, or 0 and the needs of the built records.
-use Rattle.std.specs.Prelude.{◌≡◌, refl, Bool, true, false, cond, List, ℕ, eqb}
+use Rattle.std.specs.Prelude.{◌≡◌, refl, Bool, true, false, cond, List, ℕ, eqb, Result, Ok, Err}
 use Rattle.std.proofs.Common.{sym, eqb-true, eq-eqb, ne_eqb}
 use Rattle.sheet.specs.Record.{count_of}
 use Rattle.sheet.specs.Checks.{check_of}
 use Rattle.layout.specs.Needs.{cells_from, registers_from, scratch_from}
+use Rattle.offsets.specs.declared.Needs.{Needs}
+use Rattle.refusal.specs.declared.Refusal.{Refusal}
+use Rattle.refusal.specs.Refusal.{number_of, number-some}
 use Rattle.tables.specs.declared.Needed.{Needed}
 
 abbrev pub refused : ℕ → Needed
 refused r = record { refusal = r; cells = 0; registers = 0; scratch = 0 }
+
+-- the answer for C, made of what the call returns
+abbrev pub needed_by : Result Needs Refusal → Needed
+needed_by (Ok n) = record { refusal = 0; cells = n.cells; registers = n.registers; scratch = n.scratch }
+needed_by (Err e) = refused (number_of e)
 
 abbrev pub wanted : List ℕ → Needed
 wanted s = record { refusal = 0; cells = cells_from s (count_of s); registers = registers_from s (count_of s); scratch = scratch_from s (count_of s) }

@@ -1,14 +1,14 @@
--- The nearest whole number of a small quotient, by comparisons with halves: what `round_of` and the cast give between -5/2 and 5/2. Assumes nothing.
+-- The nearest whole number of a small quotient, by comparisons with halves: what `round_of` and the cast give between -5/2 and 5/2.
 use mathlib.Core.Path.{◌≡◌, refl, sym, ap, ◌∙◌, subst}
 use mathlib.Core.Bool.{Bool, true, false, not}
-use Prim.Native.Nat.{ℕ, zero, suc, ◌+◌, ◌*◌, ◌/◌, ◌^◌, ◌≤◌, ◌<◌}
+use Prim.Native.Nat.{ℕ, zero, suc, ◌+◌, ◌*◌, ◌^◌, ◌≤◌, ◌<◌}
 use native.Mathlib.Nat.{mul-pos, zero-lt-suc, div-eq_of_lt}
 use native.Mathlib.Omega.{arith}
 use lib.IntN.{ℤ, pos, negsuc}
 use lib.Dec.{T, T_not, ltb, lt→ltb, ltb→lt, nltb→le}
 use lib.Ieee.{Float, nan, inf, fin, binary64, up, down, fits, neg, lt, of_bits, of_int, to_signed, round, units}
 use lib.Ieee.Fits.{up_pos, down_pos, neg-fits}
-use Rattle.ieee.proofs.Tests.{null, two_to}
+use Rattle.ieee.proofs.Tests.{null}
 use Rattle.ieee.proofs.Value.{zero_exp}
 use Rattle.ieee.proofs.Whole.{div_is}
 use Rattle.rounding.specs.Whole.{half, whole_of, round_of}

@@ -66,10 +66,8 @@ pub fn reduce_2pi(x: f64) -> f64
         if y > 0.0 {
             return ((x - 0.0 * PI2_HI) - 0.0 * PI2_MID) - 0.0 * PI2_LO;
         }
-    } else {
-        if y < 1.5 {
-            return ((x - 1.0 * PI2_HI) - 1.0 * PI2_MID) - 1.0 * PI2_LO;
-        }
+    } else if y < 1.5 {
+        return ((x - 1.0 * PI2_HI) - 1.0 * PI2_MID) - 1.0 * PI2_LO;
     }
     let k = rounding::round_f64(y);
     ((x - k * PI2_HI) - k * PI2_MID) - k * PI2_LO
@@ -118,13 +116,10 @@ fn sin_reduced(r: f64) -> f64
         if z > -2.5 {
             return -sin_poly(r - -2.0 * FRAC_PI_2);
         }
-    } else {
-        if z < 1.5 {
-            return cos_poly(r - 1.0 * FRAC_PI_2);
-        }
-        if z < 2.5 {
-            return -sin_poly(r - 2.0 * FRAC_PI_2);
-        }
+    } else if z < 1.5 {
+        return cos_poly(r - 1.0 * FRAC_PI_2);
+    } else if z < 2.5 {
+        return -sin_poly(r - 2.0 * FRAC_PI_2);
     }
     sin_turned(r)
 }
@@ -146,11 +141,11 @@ pub fn cos(x: f64) -> f64
 pub fn sinf(x: f32) -> f32
     ensures { result ≡ narrow_of (sin_of x) }
 {
-    cast::f64_to_f32(sin(cast::f32_to_f64(x)))
+    cast::narrowed(sin, x)
 }
 
 pub fn cosf(x: f32) -> f32
     ensures { result ≡ narrow_of (cos_of x) }
 {
-    cast::f64_to_f32(cos(cast::f32_to_f64(x)))
+    cast::narrowed(cos, x)
 }

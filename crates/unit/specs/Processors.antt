@@ -14,6 +14,7 @@ use Rattle.lines.specs.Lines.{chorus_base, chorus_swing, reverb_lines}
 use Rattle.dsp.specs.Coefficients.{feedback_of}
 use Rattle.filter_step.specs.declared.Filter.{Filter}
 use Rattle.drive_step.specs.declared.Drive.{Drive}
+use Rattle.proc.specs.declared.Compressor.{Compressor}
 use Rattle.proc.specs.Effects.{gain_of, tremolo_of, compress_of}
 use Rattle.filter_step.specs.Filter.{filter_of}
 use Rattle.drive_step.specs.Drive.{drive_step, drive_plain}
@@ -33,7 +34,7 @@ abbrev pub filter_cells : Filter → List Float
 filter_cells f = f.scale ∷ f.prev_f ∷ f.b0 ∷ f.b1 ∷ f.b2 ∷ f.a1 ∷ f.a2 ∷ f.x1 ∷ f.x2 ∷ f.y1 ∷ f.y2 ∷ []
 
 unfoldable pub filter_unit : FilterKind → Float → ℕ → Ugen
-filter_unit kind q sr c vs x o = let r = filter_of kind q sr (at vs 0) (filter_in o.0) x in (r.out, (filter_cells r.filter, o.1))
+filter_unit kind q sr c vs x o = let r = filter_of (record { kind = kind; q = q; sr = sr }) (at vs 0) (filter_in o.0) x in (r.0, (filter_cells r.1, o.1))
 
 -- 22 Lowpass to 28 Highshelf; a peak's gain is its second number, a shelf's its first, and a shelf's q is 0.707
 unfoldable pub filter_kind_of : ℕ → List ℕ → FilterKind
@@ -79,7 +80,7 @@ abbrev pub drive_cells : Drive → List Float
 drive_cells d = d.x_prev ∷ d.f_prev ∷ d.dc_x ∷ d.dc_y ∷ []
 
 unfoldable pub antialiased_unit : DriveShape → Ugen
-antialiased_unit shape c vs x o = let r = drive_step shape (at vs 0) (drive_in o.0) x in (r.out, (drive_cells r.drive, o.1))
+antialiased_unit shape c vs x o = let r = drive_step shape (at vs 0) (drive_in o.0) x in (r.0, (drive_cells r.1, o.1))
 
 abbrev pub plain_unit : DriveShape → Ugen
 plain_unit shape = stateless (λ c vs x. drive_plain shape (at vs 0) x)
@@ -92,11 +93,14 @@ abbrev pub tremolo_unit : Float → Float → Float → Ugen
 tremolo_unit rate depth srf = stateless (λ c vs x. tremolo_of rate depth srf c.position x)
 
 -- ---- Compress: env, at, rt, makeup
+abbrev pub compressor_in : Float → Float → List Float → Compressor
+compressor_in threshold ratio cs = record { at = at cs 1; rt = at cs 2; threshold = threshold; ratio = ratio; makeup = at cs 3 }
+
 unfoldable pub compress_unit : Float → Float → Ugen
 compress_unit threshold ratio c vs x o =
     let cs = o.0 in
-    let r = compress_of (at cs 1) (at cs 2) threshold ratio (at cs 3) (at cs 0) x in
-    (r.out, (r.env ∷ at cs 1 ∷ at cs 2 ∷ at cs 3 ∷ [], o.1))
+    let r = compress_of (compressor_in threshold ratio cs) (at cs 0) x in
+    (r.0, (r.1 ∷ at cs 1 ∷ at cs 2 ∷ at cs 3 ∷ [], o.1))
 
 abbrev unit_range : Float → Float
 unit_range x = clamp_of x zero one

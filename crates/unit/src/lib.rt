@@ -5,6 +5,7 @@ ghost use Rattle.std.specs.Prelude.{◌≡◌, ◌≤◌, length};
 ghost use Rattle.unit.specs.Processors.{filter_kind_of, filter_q};
 
 // The filter of a record by its kind, 22 to 28, with the gain that it has.
+#[tactic(auto, unfolding(crate::specs::Processors::filter_kind_of))]
 pub fn filter_kind(kind: u8, r: &[u8]) -> biquad::FilterKind
     requires { 40 ≤ length r.now }
     ensures { result ≡ filter_kind_of kind r.now }
@@ -21,6 +22,7 @@ pub fn filter_kind(kind: u8, r: &[u8]) -> biquad::FilterKind
 }
 
 // A shelf's q is fixed.
+#[tactic(auto, unfolding(crate::specs::Processors::filter_q))]
 pub fn filter_q(kind: u8, r: &[u8]) -> f32
     requires { 40 ≤ length r.now }
     ensures { result ≡ filter_q kind r.now }

@@ -8,13 +8,13 @@ use Rattle.float.specs.Single.{◌⊕◌, ◌⊖◌, ◌⊗◌, ◌⊘◌, zero,
 use Rattle.dsp.specs.Math.{cosine}
 use Rattle.rng.specs.Random.{stepped, unit_of, bi_of}
 use Rattle.dsp.specs.Coefficients.{one_pole_of}
+use Rattle.dsl.specs.declared.Adsr.{Adsr}
 use Rattle.envelope.specs.Envelope.{adsr_of}
 use Rattle.value.specs.Modulators.{seconds_of}
-use Rattle.unpitched.specs.declared.Drawn.{Drawn}
-use Rattle.unpitched.specs.declared.Poles.{Poles}
-use Rattle.unpitched.specs.declared.PinkOut.{PinkOut}
-use Rattle.unpitched.specs.declared.BrownOut.{BrownOut}
-use Rattle.unpitched.specs.declared.DustOut.{DustOut}
+use Rattle.unpitched.specs.declared.Impact.{Impact}
+use Rattle.unpitched.specs.declared.Pink.{Pink}
+use Rattle.unpitched.specs.declared.Brown.{Brown}
+use Rattle.unpitched.specs.declared.Dust.{Dust}
 
 -- Impact: a Hann lobe of w samples, 8 ms where soft and 0.3 ms where hard, of unit area times the velocity
 unfoldable pub impact_width : Float → Float → ℕ
@@ -25,38 +25,41 @@ impact_width hardness srf =
 unfoldable pub impact_norm : Float → ℕ → Float
 impact_norm velocity w = clamp_of velocity zero one ⊘ (half ⊗ of_int binary32 (pos w))
 
+abbrev pub impact_by : Float → Float → Float → Impact
+impact_by hardness velocity srf = let w = impact_width hardness srf in record { w = w; norm = impact_norm velocity w }
+
 unfoldable pub impact_of : ℕ → Float → ℕ → Float
 impact_of w norm t = cond (ltb t w) (norm ⊗ half ⊗ (one ⊖ cosine (tau ⊗ ((of_int binary32 (pos t) ⊕ half) ⊘ of_int binary32 (pos w))))) zero
 
 -- Env: the envelope at the position t; its release starts at relStart
-unfoldable pub env_of : Float → Float → Float → Float → Float → Float → Float → ℕ → Float
-env_of a d s r punch srf relStart t = adsr_of (seconds_of t srf) a d s r punch relStart
+unfoldable pub env_of : Adsr → Float → Float → ℕ → Float
+env_of e srf relStart t = adsr_of e (seconds_of t srf) relStart
 
 -- white noise: the generator's word in, the sample and the next word
-unfoldable pub white_of : ℕ → Drawn
-white_of word = record { out = bi_of word; word = stepped word }
+unfoldable pub white_of : ℕ → Float × ℕ
+white_of word = (bi_of word, stepped word)
 
 -- pink: Paul Kellet's filter over white noise w: the sum of six one-pole filters, of w and of the w before; the state is their outputs and that w, weighted
-abbrev pub pole : Poles → ℕ → Float
-pole p k = get_or p.b k nan
+abbrev pub pole : Pink → ℕ → Float
+pole s k = get_or s.poles k nan
 
-unfoldable pub pink_of : ℕ → Poles → PinkOut
-pink_of word p =
-    let w = bi_of word in
-    let b0 = of_bits binary32 0x3f7f_b54a ⊗ pole p 0 ⊕ w ⊗ of_bits binary32 0x3d63_66bd in
-    let b1 = of_bits binary32 0x3f7e_4a38 ⊗ pole p 1 ⊕ w ⊗ of_bits binary32 0x3d99_c165 in
-    let b2 = of_bits binary32 0x3f78_1062 ⊗ pole p 2 ⊕ w ⊗ of_bits binary32 0x3e1d_8b61 in
-    let b3 = of_bits binary32 0x3f5d_d2f2 ⊗ pole p 3 ⊕ w ⊗ of_bits binary32 0x3e9e_f7f8 in
-    let b4 = of_bits binary32 0x3f0c_cccd ⊗ pole p 4 ⊕ w ⊗ of_bits binary32 0x3f08_6f8e in
-    let b5 = neg (of_bits binary32 0x3f42_f838) ⊗ pole p 5 ⊖ w ⊗ of_bits binary32 0x3c8a_6dad in
-    let v = b0 ⊕ b1 ⊕ b2 ⊕ b3 ⊕ b4 ⊕ b5 ⊕ pole p 6 ⊕ w ⊗ of_bits binary32 0x3f09_4467 in
-    record { out = v ⊗ of_bits binary32 0x3de1_47ae; word = stepped word; poles = record { b = b0 ∷ b1 ∷ b2 ∷ b3 ∷ b4 ∷ b5 ∷ (w ⊗ of_bits binary32 0x3ded_6a9c) ∷ [] } }
+unfoldable pub pink_of : Pink → Float × Pink
+pink_of s =
+    let w = bi_of s.rng.state in
+    let b0 = of_bits binary32 0x3f7f_b54a ⊗ pole s 0 ⊕ w ⊗ of_bits binary32 0x3d63_66bd in
+    let b1 = of_bits binary32 0x3f7e_4a38 ⊗ pole s 1 ⊕ w ⊗ of_bits binary32 0x3d99_c165 in
+    let b2 = of_bits binary32 0x3f78_1062 ⊗ pole s 2 ⊕ w ⊗ of_bits binary32 0x3e1d_8b61 in
+    let b3 = of_bits binary32 0x3f5d_d2f2 ⊗ pole s 3 ⊕ w ⊗ of_bits binary32 0x3e9e_f7f8 in
+    let b4 = of_bits binary32 0x3f0c_cccd ⊗ pole s 4 ⊕ w ⊗ of_bits binary32 0x3f08_6f8e in
+    let b5 = neg (of_bits binary32 0x3f42_f838) ⊗ pole s 5 ⊖ w ⊗ of_bits binary32 0x3c8a_6dad in
+    let v = b0 ⊕ b1 ⊕ b2 ⊕ b3 ⊕ b4 ⊕ b5 ⊕ pole s 6 ⊕ w ⊗ of_bits binary32 0x3f09_4467 in
+    (v ⊗ of_bits binary32 0x3de1_47ae, record { rng = record { state = stepped s.rng.state }; poles = b0 ∷ b1 ∷ b2 ∷ b3 ∷ b4 ∷ b5 ∷ (w ⊗ of_bits binary32 0x3ded_6a9c) ∷ [] })
 
 -- brown: white noise integrated with a leak, times 8, clamped
-unfoldable pub brown_of : ℕ → Float → BrownOut
-brown_of word last =
-    let l = (last ⊕ of_bits binary32 0x3ca3_d70a ⊗ bi_of word) ⊗ of_bits binary32 0x3f7f_7cee in
-    record { out = clamp_of (l ⊗ of_bits binary32 0x4100_0000) (neg one) one; word = stepped word; last = l }
+unfoldable pub brown_of : Brown → Float × Brown
+brown_of s =
+    let l = (s.last ⊕ of_bits binary32 0x3ca3_d70a ⊗ bi_of s.rng.state) ⊗ of_bits binary32 0x3f7f_7cee in
+    (clamp_of (l ⊗ of_bits binary32 0x4100_0000) (neg one) one, record { rng = record { state = stepped s.rng.state }; last = l })
 
 -- Dust: with the chance p in each sample an impulse of a random height, which then decays by g a sample
 unfoldable pub dust_chance : Float → Float → Float
@@ -65,8 +68,9 @@ dust_chance density srf = clamp_of (density ⊘ srf) zero one
 unfoldable pub dust_decay : Float → Float → Float
 dust_decay decay srf = cond (lt zero decay) (one_pole_of decay srf) zero
 
-unfoldable pub dust_of : ℕ → Float → Float → Float → DustOut
-dust_of word p g y =
+unfoldable pub dust_of : Float → Float → Dust → Float × Dust
+dust_of p g s =
+    let word = s.rng.state in
     let hit = lt (unit_of word) p in
-    let z = cond hit (bi_of (stepped word)) zero ⊕ g ⊗ y in
-    record { out = z; word = cond hit (stepped (stepped word)) (stepped word); y = z }
+    let z = cond hit (bi_of (stepped word)) zero ⊕ g ⊗ s.y in
+    (z, record { rng = record { state = cond hit (stepped (stepped word)) (stepped word) }; y = z })

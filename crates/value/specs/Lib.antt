@@ -1,2 +1,1 @@
 pub mod Modulators
-pub mod Ease

@@ -1,4 +1,4 @@
--- The values of document 01 for one sample. t is the position, srf the rate as an f32; what depends on the sheet alone is given: secs floored, the release's start.
+-- The values for one sample. t is the position, srf the rate as an f32; what depends on the sheet alone is given: secs floored, the release's start.
 use Rattle.std.specs.Prelude.{cond, ◌&&◌, List, ℕ, ◌%◌, eqb, length, get_or, pos, Float}
 use Rattle.std.specs.Float.{nan, binary32}
 use Rattle.std.specs.Float.Ieee.{lt, of_bits, of_int, to_unsigned}
@@ -8,9 +8,11 @@ use Rattle.float.specs.Single.{◌⊕◌, ◌⊖◌, ◌⊗◌, ◌⊘◌, zero 
 use Rattle.dsp.specs.Math.{power}
 use Rattle.envelope.specs.Envelope.{adsr_of}
 use Rattle.osc.specs.Osc.{osc_of}
-use Rattle.dsl.specs.declared.Shape.{Shape}
 use Rattle.dsl.specs.declared.Curve.{Curve}
 use Rattle.dsl.specs.declared.Curve.TheVariants.{Lin, Exp}
+use Rattle.dsl.specs.declared.Slide.{Slide}
+use Rattle.dsl.specs.declared.Lfo.{Lfo}
+use Rattle.dsl.specs.declared.EnvMod.{EnvMod}
 
 -- the position in seconds
 abbrev pub seconds_of : ℕ → Float → Float
@@ -27,20 +29,24 @@ slide_secs secs = max_of secs (of_bits binary32 0x3586_37bd)
 unfoldable pub slide_exp : Float → Float → Float → Float
 slide_exp from to p = cond (lt zero_f from && lt zero_f to) (from ⊗ power (to ⊘ from) p) (lerp from to (p ⊗ p))
 
--- at x seconds
-unfoldable pub slide_at : Curve → Float → Float → Float → Float → Float
-slide_at Lin from to secs x = lerp from to (clamp_of (x ⊘ secs) zero_f one)
-slide_at Exp from to secs x = slide_exp from to (clamp_of (x ⊘ secs) zero_f one)
+-- p of the way along the curve
+unfoldable pub eased : Curve → Float → Float → Float → Float
+eased Lin from to p = lerp from to p
+eased Exp from to p = slide_exp from to p
 
-unfoldable pub slide_of : Curve → Float → Float → Float → Float → ℕ → Float
-slide_of curve from to secs srf t = slide_at curve from to secs (seconds_of t srf)
+-- at x seconds; the slide's own secs are floored already
+unfoldable pub slide_at : Slide → Float → Float
+slide_at v x = eased v.curve v.from v.to (clamp_of (x ⊘ v.secs) zero_f one)
+
+unfoldable pub slide_of : Slide → Float → ℕ → Float
+slide_of v srf t = slide_at v (seconds_of t srf)
 
 -- Lfo: the phase is the fraction of the turns made, which is negative where the rate is
 unfoldable pub lfo_phase : Float → Float → ℕ → Float
 lfo_phase rate srf t = fract_of binary32 (seconds_of t srf ⊗ rate)
 
-unfoldable pub lfo_of : Shape → Float → Float → Float → Float → ℕ → Float
-lfo_of shape rate depth center srf t = center ⊕ depth ⊗ osc_of shape (lfo_phase rate srf t)
+unfoldable pub lfo_of : Lfo → Float → ℕ → Float
+lfo_of v srf t = v.center ⊕ v.depth ⊗ osc_of v.shape (lfo_phase v.rate srf t)
 
 -- Arp: which of n steps sounds, n above 0
 unfoldable pub arp_index : Float → Float → ℕ → ℕ → ℕ
@@ -54,5 +60,5 @@ arp_of steps rate srf t = cond (eqb (length steps) 0) zero_f (get_or steps (arp_
 unfoldable pub release_start : ℕ → Float → Float → Float
 release_start n srf r = max_of (of_int binary32 (pos n) ⊘ srf ⊖ r) zero_f
 
-unfoldable pub env_mod_of : Float → Float → Float → Float → Float → Float → Float → Float → Float → ℕ → Float
-env_mod_of a d s r punch from to srf relStart t = lerp from to (adsr_of (seconds_of t srf) a d s r punch relStart)
+unfoldable pub env_mod_of : EnvMod → Float → Float → ℕ → Float
+env_mod_of v srf relStart t = lerp v.from v.to (adsr_of v.env (seconds_of t srf) relStart)

@@ -3,9 +3,8 @@
 #![tactic(auto)]
 
 ghost use Rattle.std.specs.Prelude.{◌≡◌, ◌<◌, ◌%◌};
-ghost use Rattle.std.specs.Float.Ieee as Ieee;
 ghost use Rattle.value.specs.Modulators.{seconds_of, slide_secs, slide_exp, slide_at, slide_of, lfo_phase, lfo_of, arp_index, arp_of, release_start, env_mod_of};
-ghost use Rattle.value.specs.Ease.{Eased};
+ghost use Rattle.dsl.specs.declared.Curve.TheVariants.{Exp};
 ghost use Rattle.float.specs.Single.{◌⊘◌, zero as zero_f, one};
 ghost use Rattle.float.specs.Order.{clamp_of};
 ghost use Rattle.dsp.specs.Math.{wide_logarithm};
@@ -26,6 +25,7 @@ pub fn seconds_small(t: u64, srf: f32) -> f32
 }
 
 // A Slide of no length would divide by zero.
+#[tactic(auto, unfolding(crate::specs::Modulators::slide_secs))]
 pub fn slide_secs(secs: f32) -> f32
     ensures { result ≡ slide_secs secs }
 {
@@ -39,6 +39,7 @@ fn lerp(from: f32, to: f32, p: f32) -> f32
 }
 
 // p of the way, by the logarithm of to / from.
+#[tactic(auto, unfolding(crate::specs::Modulators::slide_exp))]
 fn slide_exp(from: f32, to: f32, log: f64, p: f32) -> f32
     requires { log ≡ wide_logarithm (to ⊘ from) }
     ensures { result ≡ slide_exp from to p }
@@ -50,80 +51,91 @@ fn slide_exp(from: f32, to: f32, log: f64, p: f32) -> f32
     }
 }
 
-// What an exponential slide has at every position: the logarithm of its ratio, and its end. A linear one needs neither.
+// A slide, and what an exponential one has at every position: the logarithm of its ratio, and its end. A linear one needs neither.
 #[derive(Clone, Copy)]
 pub struct Ease {
+    pub slide: dsl::Slide,
     pub log: f64,
     pub end: f32,
+    ghost logarithm: { slide.curve ≡ Exp → log ≡ wide_logarithm (slide.to ⊘ slide.from) },
+    ghost last: { slide.curve ≡ Exp → end ≡ slide_exp slide.from slide.to one },
 }
 
-pub fn ease_of(curve: dsl::Curve, from: f32, to: f32) -> Ease
-    ensures { Eased curve from to result.log result.end }
-{
-    match curve {
-        dsl::Curve::Lin => Ease { log: 0.0, end: 0.0 },
-        dsl::Curve::Exp => {
-            let log = dsp::ln_wide(to / from);
-            Ease {
-                log,
-                end: slide_exp(from, to, log, 1.0),
+impl From<dsl::Slide> for Ease {
+    ghost from_gives = { λ v e. e.slide ≡ v };
+
+    fn from(slide: dsl::Slide) -> Ease {
+        match slide.curve {
+            dsl::Curve::Lin => Ease {
+                slide,
+                log: 0.0,
+                end: 0.0,
+            },
+            dsl::Curve::Exp => {
+                let log = dsp::ln_wide(slide.to / slide.from);
+                Ease {
+                    slide,
+                    log,
+                    end: slide_exp(slide.from, slide.to, log, 1.0),
+                }
             }
         }
     }
 }
 
-// y is the part of the seconds that has passed: beyond 1 the slide stays where it ends.
-fn slide_eased(from: f32, to: f32, log: f64, end: f32, y: f32) -> f32
-    requires { (log ≡ wide_logarithm (to ⊘ from)) × (end ≡ slide_exp from to one) }
-    ensures { result ≡ slide_exp from to (clamp_of y zero_f one) }
-{
-    if y < 0.0 {
-        return slide_exp(from, to, log, 0.0);
+impl Ease {
+    // y is the part of the seconds that has passed: beyond 1 the slide stays where it ends.
+    #[tactic(auto, unfolding(float::specs::Order::clamp_of))]
+    fn exp_at(self, y: f32) -> f32
+        requires { self.slide.curve ≡ Exp }
+        ensures { result ≡ slide_exp self.slide.from self.slide.to (clamp_of y zero_f one) }
+    {
+        if y < 0.0 {
+            return slide_exp(self.slide.from, self.slide.to, self.log, 0.0);
+        }
+        if y > 1.0 {
+            return self.end;
+        }
+        slide_exp(self.slide.from, self.slide.to, self.log, y)
     }
-    if y > 1.0 {
-        return end;
+
+    // At x seconds.
+    #[tactic(auto, unfolding(crate::specs::Modulators::slide_at, crate::specs::Modulators::eased))]
+    pub fn at(self, x: f32) -> f32
+        ensures { result ≡ slide_at self.slide x }
+    {
+        let y = x / self.slide.secs;
+        match self.slide.curve {
+            dsl::Curve::Lin => lerp(self.slide.from, self.slide.to, float::clamp(y, 0.0, 1.0)),
+            dsl::Curve::Exp => self.exp_at(y),
+        }
     }
-    slide_exp(from, to, log, y)
 }
 
-pub fn slide_at(curve: dsl::Curve, from: f32, to: f32, e: Ease, secs: f32, x: f32) -> f32
-    requires { Eased curve from to e.log e.end }
-    ensures { result ≡ slide_at curve from to secs x }
+#[tactic(auto, unfolding(crate::specs::Modulators::slide_of))]
+pub fn slide(v: dsl::Slide, srf: f32, t: u64) -> f32
+    ensures { result ≡ slide_of v srf t }
 {
-    let y = x / secs;
-    match curve {
-        dsl::Curve::Lin => lerp(from, to, float::clamp(y, 0.0, 1.0)),
-        dsl::Curve::Exp => slide_eased(from, to, e.log, e.end, y),
-    }
-}
-
-pub fn slide(curve: dsl::Curve, from: f32, to: f32, secs: f32, srf: f32, t: u64) -> f32
-    ensures { result ≡ slide_of curve from to secs srf t }
-{
-    slide_at(
-        curve,
-        from,
-        to,
-        ease_of(curve, from, to),
-        secs,
-        seconds(t, srf),
-    )
+    Ease::from(v).at(seconds(t, srf))
 }
 
 // The fraction of the turns made: `fract`, not floor, so that a negative rate has a negative phase, as in the Rust.
+#[tactic(auto, unfolding(crate::specs::Modulators::lfo_phase))]
 pub fn lfo_phase(rate: f32, srf: f32, t: u64) -> f32
     ensures { result ≡ lfo_phase rate srf t }
 {
     rounding::fract(seconds(t, srf) * rate)
 }
 
-pub fn lfo(shape: dsl::Shape, rate: f32, depth: f32, center: f32, srf: f32, t: u64) -> f32
-    ensures { result ≡ lfo_of shape rate depth center srf t }
+#[tactic(auto, unfolding(crate::specs::Modulators::lfo_of))]
+pub fn lfo(v: dsl::Lfo, srf: f32, t: u64) -> f32
+    ensures { result ≡ lfo_of v srf t }
 {
-    center + depth * osc::osc(shape, lfo_phase(rate, srf, t))
+    v.center + v.depth * osc::osc(v.shape, lfo_phase(v.rate, srf, t))
 }
 
 // Which of n steps sounds.
+#[tactic(auto, unfolding(crate::specs::Modulators::arp_index))]
 pub fn arp_index(rate: f32, srf: f32, t: u64, n: u64) -> u64
     requires { 0 < n }
     ensures { result ≡ arp_index rate srf t n }
@@ -132,10 +144,11 @@ pub fn arp_index(rate: f32, srf: f32, t: u64, n: u64) -> u64
 }
 
 // The step that sounds; an Arp without steps is 0.
+#[tactic(auto, unfolding(crate::specs::Modulators::arp_of))]
 pub fn arp(steps: &[f32], rate: f32, srf: f32, t: u64) -> f32
     ensures { result ≡ arp_of steps.now rate srf t }
 {
-    if steps.len() == 0 {
+    if steps.is_empty() {
         return 0.0;
     }
     let i = arp_index(rate, srf, t, steps.len() as u64);
@@ -143,29 +156,20 @@ pub fn arp(steps: &[f32], rate: f32, srf: f32, t: u64) -> f32
 }
 
 // Where the release starts: r seconds before the sheet's length n, and not before 0.
+#[tactic(auto, unfolding(crate::specs::Modulators::release_start))]
 pub fn release_start(n: u64, srf: f32, r: f32) -> f32
     ensures { result ≡ release_start n srf r }
 {
     float::max0(cast::u64_to_f32(n) / srf - r)
 }
 
-pub fn env_mod(
-    a: f32,
-    d: f32,
-    s: f32,
-    r: f32,
-    punch: f32,
-    from: f32,
-    to: f32,
-    srf: f32,
-    rel_start: f32,
-    t: u64,
-) -> f32
-    ensures { result ≡ env_mod_of a d s r punch from to srf rel_start t }
+#[tactic(auto, unfolding(crate::specs::Modulators::env_mod_of))]
+pub fn env_mod(v: dsl::EnvMod, srf: f32, rel_start: f32, t: u64) -> f32
+    ensures { result ≡ env_mod_of v srf rel_start t }
 {
     lerp(
-        from,
-        to,
-        envelope::adsr_env(seconds(t, srf), a, d, s, r, punch, rel_start),
+        v.from,
+        v.to,
+        envelope::adsr_env(v.env, seconds(t, srf), rel_start),
     )
 }

@@ -1,14 +1,14 @@
 -- The values over a block: an Arp's steps along its chain, and the case that a record's kind gives.
-use Rattle.std.specs.Prelude.{◌≡◌, refl, ◌≢◌, ℕ, zero, suc, ◌+◌, ◌-◌, ◌≤◌, ◌<◌, length, get_or, set, Float}
+use Rattle.std.specs.Prelude.{◌≡◌, refl, ◌≢◌, Bool, true, false, cond, eqb, ℕ, zero, suc, ◌+◌, ◌-◌, ◌≤◌, ◌<◌, length, get_or, set, Float}
 use Rattle.std.proofs.Common.{sym, ◌∙◌, mod-lt, arith}
 use Rattle.std.proofs.Math.Path.{ap}
 use mathlib.Core.List.{List, [], ◌∷◌, map}
 use Rattle.std.proofs.Math.Decide.{ℕ_discrete}
-use borrow.Author.Tests.{eq-eqb, ne_eqb, le-ltb}
+use borrow.Author.Tests.{eq-eqb, eqb-true, ne_eqb, le-ltb}
 use Rattle.std.proofs.lemmas.List.{length-map}
 use Rattle.std.specs.Float.{nan}
 use Rattle.tree.specs.Block.{tab}
-use Rattle.block.specs.Iterate.{at, given, given-still}
+use Rattle.block.specs.Iterate.{at, given, given-still, part-while}
 use Rattle.control.specs.declared.Controls.{Controls}
 use Rattle.float.specs.Single.{zero as zero_f}
 use Rattle.value.specs.Modulators.{arp_index, arp_of}
@@ -21,6 +21,7 @@ use Rattle.layout.specs.Good.{good}
 use Rattle.layout.specs.Owners.{records-none, records-some}
 use Rattle.layout.specs.Tables.{Table, Passed, next-entry}
 use Rattle.unit.specs.Own.{stateless}
+use Rattle.value_unit.specs.declared.Step.{Step}
 use Rattle.unit.specs.Values.{value_unit}
 use Rattle.unit.specs.Unit.{steps_of, srf, kind_unit}
 use Rattle.unit.specs.Block.{moment, Ran, Lent, ran-stateless}
@@ -51,6 +52,41 @@ pub arp-some : (steps : List Float) (rate srf : Float) (t n : ℕ) → n ≡ len
 unfolding arp_of
 arp-some steps rate srf t n e h = let d : length steps ≢ 0 = omega arith in rw (e, ne_eqb (length steps) 0 d)
 
+-- step i of the chain from j on, by the last one found where that is it
+unfoldable pub step_from : List ℕ → ℕ → ℕ → Step → Step
+step_from s j i last = cond (eqb i last.index) last (record { index = i; number = step_at s j i })
+
+-- a sample of an Arp of n steps, by the last step found
+unfoldable pub found_step : List ℕ → ℕ → ℕ → Float → Float → ℕ → ℕ → Step → Float × Step
+found_step s j n rate srf t k last = let u = step_from s j (arp_index rate srf (t + k) n) last in (u.number, u)
+
+-- with the last step's own number, the next has its own
+pub step-found : (s : List ℕ) (j i : ℕ) (last : Step) → last.number ≡ step_at s j last.index → (step_from s j i last).number ≡ step_at s j i
+unfolding step_from
+step-found s j i last e = on_test (eqb i last.index) refl
+  where
+    on_test : (b : Bool) → eqb i last.index ≡ b → (cond b last (record { index = i; number = step_at s j i })).number ≡ step_at s j i
+    on_test true q = e ∙ ap (step_at s j) (sym (eqb-true i last.index q))
+    on_test false q = refl
+
+step-index : (s : List ℕ) (j i : ℕ) (last : Step) → (step_from s j i last).index ≡ i
+unfolding step_from
+step-index s j i last = on_test (eqb i last.index) refl
+  where
+    on_test : (b : Bool) → eqb i last.index ≡ b → (cond b last (record { index = i; number = step_at s j i })).index ≡ i
+    on_test true q = sym (eqb-true i last.index q)
+    on_test false q = refl
+
+pub found-is-arp : (s : List ℕ) (j n : ℕ) (rate srf : Float) (t : ℕ) (first : Step) → n ≡ length (steps_from s j) → 0 < n → first.number ≡ step_at s j first.index → (m : ℕ)
+    → given (found_step s j n rate srf t) first m ≡ given (arp_step (steps_from s j) rate srf t) tt m
+unfolding found_step arp_step
+found-is-arp s j n rate srf t first q h e m =
+    sym (part-while (λ u. tt) (found_step s j n rate srf t) (arp_step (steps_from s j) rate srf t) (λ u. u.number ≡ step_at s j u.index) m
+    (λ k l u f.
+    let i = arp_index rate srf (t + k) n in
+    let g = step-found s j i u f in
+    (g ∙ ap (step_at s j) (sym (step-index s j i u)), λ x. (sym (g ∙ arp-some (steps_from s j) rate srf (t + k) n q h) x, tt))) first e).0
+
 module _ (s : List ℕ) (n : ℕ) (a : Passed s n) where
   steps-none : steps_from s 0 ≡ []
   unfolding spine
@@ -80,11 +116,11 @@ module _ (s : List ℕ) (n : ℕ) (a : Passed s n) where
 -- the kind of a value's case
 abbrev pub kind_in : Value → ℕ
 kind_in (Const x) = 41
-kind_in (Slide from to secs curve) = 42
-kind_in (Lfo shape rate depth center) = 43
+kind_in (Slide v) = 42
+kind_in (Lfo v) = 43
 kind_in (Arp rate first) = 44
-kind_in (EnvMod a d s r punch from to) = 45
-kind_in (Rand from to rate) = 46
+kind_in (EnvMod v) = 45
+kind_in (Rand v) = 46
 
 pub kind-in : (r : List ℕ) → 41 ≤ kind_of r → kind_of r ≤ 46 → kind_of r ≡ kind_in (value_of r)
 unfolding value_of
@@ -107,11 +143,11 @@ kind-in r h l = elim (ℕ_discrete (kind_of r) 42) [
 
 arp_first : Value → ℕ
 arp_first (Const x) = 0
-arp_first (Slide from to secs curve) = 0
-arp_first (Lfo shape rate depth center) = 0
+arp_first (Slide v) = 0
+arp_first (Lfo v) = 0
 arp_first (Arp rate first) = first
-arp_first (EnvMod a d s r punch from to) = 0
-arp_first (Rand from to rate) = 0
+arp_first (EnvMod v) = 0
+arp_first (Rand v) = 0
 
 pub arp-first : (r : List ℕ) {rate : Float} {f : ℕ} → kind_of r ≡ 44 → value_of r ≡ Arp rate f → f ≡ first_of r
 unfolding value_of arp_first

@@ -5,13 +5,14 @@ ghost use Rattle.std.specs.Prelude.{◌≡◌, [], ◌+◌, ◌^◌, ◌≤◌, 
 ghost use Rattle.block.specs.Iterate.{given};
 ghost use Rattle.sheet.specs.Record.{next};
 ghost use Rattle.layout.specs.Tables.{Table, Passed};
+ghost use Rattle.value.specs.Modulators.{arp_index};
 ghost use Rattle.rand_value.specs.Rand.{rand_increment};
 ghost use Rattle.unit.specs.Values.{rand_unit};
 ghost use Rattle.unit.specs.Unit as unit;
 ghost use Rattle.unit.specs.Unit.{kind_unit};
 ghost use Rattle.unit.specs.Block.{Ran, Lent};
 ghost use Rattle.value_unit.specs.Lent.{RanAlone};
-ghost use Rattle.value_unit.specs.Laws.{steps_from, step_at, arp_step};
+ghost use Rattle.value_unit.specs.Laws.{steps_from, step_at, step_from, arp_step};
 
 // The rate as an f32.
 pub fn srf_of(sheet: &[u8]) -> f32
@@ -30,109 +31,95 @@ struct Step {
     number: f32,
 }
 
-// Step k of the chain that begins at first.
-fn step_at(sheet: &[u8], count: usize, nexts: &[usize], first: usize, k: u64) -> f32
-    requires { Passed sheet.now count × Table (next sheet.now) count nexts.now × (first < count) × (k < length (steps_from sheet.now first)) }
-    ensures { result ≡ step_at sheet.now first k }
-{
-    let mut j = first;
-    let mut left = k;
-    while left != 0 {
-        j = nexts[j];
-        left -= 1;
-    }
-    sheet::number(&sheet[24 + 40 * j..], 0)
+// The chain of Step records that begins at first, in a sheet that passes the checks, with the table of its next records.
+#[derive(Clone, Copy)]
+struct Chain<'a> {
+    sheet: &'a [u8],
+    count: usize,
+    nexts: &'a [usize],
+    first: usize,
+    ghost passed: { Passed sheet.now count },
+    ghost table: { Table (next sheet.now) count nexts.now },
+    ghost inside: { first < count },
 }
 
-// The same; the chain is walked only where the step is not the last one found.
-fn step_from(sheet: &[u8], count: usize, nexts: &[usize], first: usize, k: u64, last: Step) -> Step
-    requires { Passed sheet.now count × Table (next sheet.now) count nexts.now × (first < count) × (k < length (steps_from sheet.now first)) × (last.number ≡ step_at sheet.now first last.index) }
-    ensures { (result.index ≡ k) × (result.number ≡ step_at sheet.now first k) }
-{
-    if k == last.index {
-        return last;
+impl<'a> Chain<'a> {
+    // Step k.
+    fn step_at(self, k: u64) -> f32
+        requires { k < length (steps_from self.sheet.now self.first) }
+        ensures { result ≡ step_at self.entry.sheet.now self.entry.first k }
+    {
+        let mut j = self.first;
+        for _ in 0..k {
+            j = self.nexts[j];
+        }
+        sheet::number(&self.sheet[24 + 40 * j..], 0)
     }
-    Step {
-        index: k,
-        number: step_at(sheet, count, nexts, first, k),
+
+    // The step that sounds at the position t, of n; the chain is walked only where it is not the last one found.
+    #[tactic(auto, unfolding(crate::specs::Laws::step_from))]
+    fn step_from(self, n: u64, rate: f32, srf: f32, t: u64, last: Step) -> Step
+        requires { (n ≡ length (steps_from self.sheet.now self.first)) × (0 < n) }
+        ensures { result ≡ step_from self.entry.sheet.now self.entry.first (arp_index rate srf t n) last }
+    {
+        let index = value::arp_index(rate, srf, t, n);
+        if index == last.index {
+            return last;
+        }
+        Step {
+            index,
+            number: self.step_at(index),
+        }
     }
 }
 
 // An Arp of n steps, n above 0.
-fn arp_steps(
-    out: &mut [f32],
-    sheet: &[u8],
-    count: usize,
-    nexts: &[usize],
-    first: usize,
-    n: u64,
-    rate: f32,
-    srf: f32,
-    t: u64,
-)
-    requires { Passed sheet.now count × Table (next sheet.now) count nexts.now × (first < count) × (n ≡ length (steps_from sheet.now first)) × (0 < n) × (t + length out.old < 2 ^ 64) }
-    ensures { out.new ≡ given (arp_step (steps_from sheet.now first) rate srf t) tt (length out.old) }
+fn arp_steps(out: &mut [f32], chain: Chain, n: u64, rate: f32, srf: f32, t: u64)
+    requires { (n ≡ length (steps_from chain.sheet.now chain.first)) × (0 < n) × (t + length out.old < 2 ^ 64) }
+    ensures { out.new ≡ given (arp_step (steps_from chain.entry.sheet.now chain.entry.first) rate srf t) tt (length out.old) }
 {
-    let mut last = Step {
+    let start = Step {
         index: 0,
-        number: step_at(sheet, count, nexts, first, 0),
+        number: chain.step_at(0),
     };
-    let mut k: usize = 0;
-    while k < out.len() {
-        let i = value::arp_index(rate, srf, t + (k as u64), n);
-        last = step_from(sheet, count, nexts, first, i, last);
-        out[k] = last.number;
-        k += 1;
-    }
+    block::run_block(out, start, |k, last, _| {
+        let step = chain.step_from(n, rate, srf, t + (k as u64), last);
+        (step.number, step)
+    });
 }
 
-// The steps stand in the chain that begins at first.
-fn arp(
-    out: &mut [f32],
-    sheet: &[u8],
-    count: usize,
-    nexts: &[usize],
-    first: usize,
-    rate: f32,
-    srf: f32,
-    t: u64,
-)
-    requires { Passed sheet.now count × Table (next sheet.now) count nexts.now × (first < count) × (t + length out.old < 2 ^ 64) }
-    ensures { out.new ≡ given (arp_step (steps_from sheet.now first) rate srf t) tt (length out.old) }
+// An Arp without steps is 0.
+fn arp(out: &mut [f32], chain: Chain, rate: f32, srf: f32, t: u64)
+    requires { t + length out.old < 2 ^ 64 }
+    ensures { out.new ≡ given (arp_step (steps_from chain.entry.sheet.now chain.entry.first) rate srf t) tt (length out.old) }
 {
-    let n = layout::chain_length(sheet, count, nexts, first);
-    if n == 0 {
-        block::fill_block(out, 0.0);
-        return;
+    match layout::chain_length(chain.sheet, chain.count, chain.nexts, chain.first) {
+        0 => block::fill_block(out, 0.0),
+        n => arp_steps(out, chain, n, rate, srf, t),
     }
-    arp_steps(out, sheet, count, nexts, first, n, rate, srf, t);
 }
 
 // ---- Rand
 
-fn rand(
-    out: &mut [f32],
-    from: f32,
-    to: f32,
-    rate: f32,
-    srf: f32,
-    cells: &mut [f32],
-    regs: &mut [u64],
-)
+fn rand(out: &mut [f32], v: dsl::Rand, srf: f32, cells: &mut [f32], regs: &mut [u64])
     requires { (length cells.old ≡ 3) × (length regs.old ≡ 1) }
-    ensures { RanAlone (rand_unit (rand_increment rate srf) from to) out.old cells.old regs.old out.new cells.new regs.new }
+    ensures { RanAlone (rand_unit (rand_increment v.rate srf) v.from v.to) out.old cells.old regs.old out.new cells.new regs.new }
 {
     let s = rand_value::Rand {
-        word: regs[0],
+        rng: rng::Rng { state: regs[0] },
         prev: cells[0],
         next: cells[1],
         phase: cells[2],
     };
-    let r = value_block::rand_block(out, rand_value::rand_increment(rate, srf), from, to, s);
-    regs[0] = r.word;
-    cells[0] = r.prev;
-    cells[1] = r.next;
-    cells[2] = r.phase;
+    let r = value_block::rand_block(
+        out,
+        rand_value::rand_increment(v.rate, srf),
+        v.from,
+        v.to,
+        s,
+    );
+    regs[0] = r.rng.state;
+    cells.copy_from_slice(&[r.prev, r.next, r.phase]);
 }
 
 // ---- by kind, 41 to 46
@@ -153,34 +140,29 @@ pub fn play(
 {
     let srf = srf_of(sheet);
     let t = c.position;
-    let v = sheet::read_value(&sheet[24 + 40 * i..]);
-    match v {
+    match sheet::read_value(&sheet[24 + 40 * i..]) {
         sheet::Value::Const(x) => block::fill_block(out, x),
-        sheet::Value::Slide {
-            from,
-            to,
-            secs,
-            curve,
-        } => { value_block::slide_block(out, curve, from, to, value::slide_secs(secs), srf, t) }
-        sheet::Value::Lfo {
-            shape,
-            rate,
-            depth,
-            center,
-        } => { value_block::lfo_block(out, shape, rate, depth, center, srf, t) }
-        sheet::Value::Arp { rate, first } => { arp(out, sheet, count, nexts, first, rate, srf, t) }
-        sheet::Value::EnvMod {
-            a,
-            d,
-            s,
-            r,
-            punch,
-            from,
-            to,
-        } => {
-            let release = value::release_start(sheet::length(sheet), srf, r);
-            value_block::env_mod_block(out, a, d, s, r, punch, from, to, srf, release, t)
+        sheet::Value::Slide(v) => {
+            let floored = dsl::Slide {
+                secs: value::slide_secs(v.secs),
+                ..v
+            };
+            value_block::slide_block(out, floored, srf, t)
         }
-        sheet::Value::Rand { from, to, rate } => { rand(out, from, to, rate, srf, cells, regs) }
+        sheet::Value::Lfo(v) => value_block::lfo_block(out, v, srf, t),
+        sheet::Value::Arp { rate, first } => {
+            let chain = Chain {
+                sheet,
+                count,
+                nexts,
+                first,
+            };
+            arp(out, chain, rate, srf, t)
+        }
+        sheet::Value::EnvMod(v) => {
+            let release = value::release_start(sheet::length(sheet), srf, v.env.r);
+            value_block::env_mod_block(out, v, srf, release, t)
+        }
+        sheet::Value::Rand(v) => rand(out, v, srf, cells, regs),
     }
 }

@@ -3,12 +3,18 @@
 // of its samples and the hash of what it leaves (0: not compared). Then the sheet, and 16 bytes for each call. All numbers have the lowest byte first.
 #![tactic(auto)]
 
-ghost use Rattle.std.specs.Prelude.{◌≡◌, ◌^◌, ◌<◌, ◌≤◌, length, take};
+ghost use Rattle.std.specs.Prelude.{◌≡◌, ◌+◌, ◌≤◌, length, take};
 ghost use Rattle.hash.specs.Hash.{basis, hashed, bits_of};
 
-use console::{read_full, say, say_count, say_hex};
+use console::{next_bytes, read_full};
+use control::Controls;
+use performance::Call;
+use refusal::Refusal;
 use std::io;
-use std::io::{Read, Write};
+use std::io::{BufReader, Read, Write};
+
+// The most calls of a case.
+const CALLS: usize = 64;
 
 #[derive(Clone, Copy)]
 struct Head {
@@ -19,25 +25,41 @@ struct Head {
     state: u64,
 }
 
+// A hash, and what it must be.
 #[derive(Clone, Copy)]
-struct Call {
-    kind: u8,
-    x: f32,
-    g: f32,
-    length: usize,
-    whole: bool,
-}
-
-// How a case came out: 0 as it must, 1 not played, 2 with other samples, 3 with another state; the hash that differs and what it must be; how many
-// samples were made, whether the state was compared, and whether the case was read whole.
-#[derive(Clone, Copy)]
-struct Outcome {
-    difference: u8,
+struct Hashes {
     got: u64,
     expected: u64,
+}
+
+#[derive(Clone, Copy)]
+enum Difference {
+    NotPlayed,
+    Samples(Hashes),
+    State(Hashes),
+}
+
+// How many samples were made, whether the state was compared, and what is not as it must be.
+#[derive(Clone, Copy)]
+struct Outcome {
     samples: u64,
     compared: bool,
-    whole: bool,
+    difference: Option<Difference>,
+}
+
+const NOT_PLAYED: Outcome = Outcome {
+    samples: 0,
+    compared: false,
+    difference: Some(Difference::NotPlayed),
+};
+
+// What comes next in the input. After a case that is cut short, or whose sheet or calls are more than what is lent, it is not known where the next
+// one starts.
+#[derive(Clone, Copy)]
+enum Next {
+    Case(Outcome),
+    Cut,
+    End,
 }
 
 // How many samples the fills made, and their hash.
@@ -47,136 +69,78 @@ struct Sound {
     hash: u64,
 }
 
-// The cases so far, and the first of those that differ.
-#[derive(Clone, Copy)]
-struct Run {
-    more: bool,
-    cases: u64,
-    samples: u64,
-    states: u64,
-    differences: u64,
-    at: u64,
-    first: Outcome,
-}
-
 // ---- reading a case
 
-fn wide(x: u8) -> u64
-    ensures { result < 256 }
+fn u32_at(b: &[u8], at: usize) -> u32
+    requires { at + 4 ≤ length b.now }
 {
-    x as u64
+    u32::from_le_bytes([b[at], b[at + 1], b[at + 2], b[at + 3]])
 }
 
-fn number(b0: u8, b1: u8, b2: u8, b3: u8) -> u64
-    ensures { result < 2 ^ 32 }
+fn u64_at(b: &[u8], at: usize) -> u64
+    requires { at + 8 ≤ length b.now }
 {
-    wide(b0) + 256 * wide(b1) + 65536 * wide(b2) + 16777216 * wide(b3)
+    u64::from(u32_at(b, at)) | u64::from(u32_at(b, at + 4)) << 32
 }
 
-fn long(low: u64, high: u64) -> u64
-    requires { (low < 2 ^ 32) × (high < 2 ^ 32) }
-{
-    low + 4294967296 * high
-}
-
-fn single(b0: u8, b1: u8, b2: u8, b3: u8) -> f32 {
-    float::from_bits(number(b0, b1, b2, b3) as u32)
-}
-
-fn head_of(b: &[u8; 32]) -> Head {
-    Head {
-        sheet: number(b[0], b[1], b[2], b[3]) as usize,
-        calls: number(b[4], b[5], b[6], b[7]) as usize,
-        position: long(
-            number(b[8], b[9], b[10], b[11]),
-            number(b[12], b[13], b[14], b[15]),
-        ),
-        samples: long(
-            number(b[16], b[17], b[18], b[19]),
-            number(b[20], b[21], b[22], b[23]),
-        ),
-        state: long(
-            number(b[24], b[25], b[26], b[27]),
-            number(b[28], b[29], b[30], b[31]),
-        ),
+impl From<[u8; 32]> for Head {
+    fn from(b: [u8; 32]) -> Head {
+        Head {
+            sheet: u32_at(&b, 0) as usize,
+            calls: u32_at(&b, 4) as usize,
+            position: u64_at(&b, 8),
+            samples: u64_at(&b, 16),
+            state: u64_at(&b, 24),
+        }
     }
 }
 
 // The kind, three bytes of no use, the two floats and the length.
-fn next_call(input: &mut impl Read) -> io::Result<Call> {
-    let mut b = [0u8; 16];
-    let got = read_full(input, &mut b)?;
-    Ok(Call {
-        kind: b[0],
-        x: single(b[4], b[5], b[6], b[7]),
-        g: single(b[8], b[9], b[10], b[11]),
-        length: number(b[12], b[13], b[14], b[15]) as usize,
-        whole: got == 16,
-    })
+fn call_of(b: [u8; 16]) -> Call {
+    let x = float::from_bits(u32_at(&b, 4));
+    match b[0] {
+        0 => Call::Fill(u32_at(&b, 12) as usize),
+        1 => Call::Pitch {
+            scale: x,
+            coefficient: float::from_bits(u32_at(&b, 8)),
+        },
+        2 => Call::Bend(x),
+        _ => Call::Cutoff(x),
+    }
 }
 
-// As many calls as the slices have, and whether all came whole.
-fn read_calls(
-    input: &mut impl Read,
-    kinds: &mut [u8],
-    xs: &mut [f32],
-    gs: &mut [f32],
-    lens: &mut [usize],
-) -> io::Result<bool>
-    requires { (length xs.old ≡ length kinds.old) × (length gs.old ≡ length kinds.old) × (length lens.old ≡ length kinds.old) }
-{
-    let mut whole = true;
-    let mut k: usize = 0;
-    while k < kinds.len() {
-        let call = next_call(input)?;
-        kinds[k] = call.kind;
-        xs[k] = call.x;
-        gs[k] = call.g;
-        lens[k] = call.length;
-        whole = whole && call.whole;
-        k += 1;
+// Fills the calls, and says whether all came whole.
+fn read_calls(input: &mut impl Read, calls: &mut [Call]) -> io::Result<bool> {
+    for call in calls {
+        let Some(next) = next_bytes::<_, 16>(input)? else {
+            return Ok(false);
+        };
+        *call = call_of(next);
     }
-    Ok(whole)
+    Ok(true)
 }
 
 // ---- one case
 
-fn all_zero(answers: &[u8]) -> bool {
-    let mut k: usize = 0;
-    while k < answers.len() {
-        if answers[k] != 0 {
-            return false;
-        }
-        k += 1;
-    }
-    true
-}
-
-// The samples of a call: those of a fill that has room.
-fn made(kind: u8, n: usize, room: usize) -> usize
-    ensures { result ≤ room }
-{
-    if kind == 0 && n <= room { n } else { 0 }
-}
-
-// The samples of all calls.
-fn filled(kinds: &[u8], lens: &[usize], room: usize) -> usize
+// The samples of the fills that have room.
+fn filled(calls: &[Call], room: usize) -> usize
     ensures { result ≤ room }
 {
     let mut left = room;
-    let mut k: usize = 0;
-    while k < kinds.len() && k < lens.len() {
-        left = left - made(kinds[k], lens[k], left);
-        k += 1;
+    for call in calls {
+        let n = (*call).length();
+        if n <= left {
+            left -= n;
+        }
     }
     room - left
 }
 
 // The samples of accepted calls stand in out, one after another.
-fn sound_of(kinds: &[u8], lens: &[usize], out: &[f32]) -> Sound
+fn sound_of(calls: &[Call], out: &[f32]) -> Sound
     ensures { result.hash ≡ hashed bits_of basis (take result.samples out.now) }
 {
-    let m = filled(kinds, lens, out.len());
+    let m = filled(calls, out.len());
     Sound {
         samples: m as u64,
         hash: hash::hash_floats(hash::BASIS, &out[..m]),
@@ -186,226 +150,155 @@ fn sound_of(kinds: &[u8], lens: &[usize], out: &[f32]) -> Sound
 fn least(n: u64, most: usize) -> usize
     ensures { result ≤ most }
 {
-    if n < most as u64 { n as usize } else { most }
+    n.min(most as u64) as usize
 }
 
 // The needs of a sheet that was built are at most what is lent, so that `least` takes all of them.
-fn state_of(sheet: &[u8], c: control::Controls, cells: &[f32], regs: &[u64], scr: &[f32]) -> u64 {
-    let needed = player::needs(sheet);
+fn state_of(
+    sheet: &[u8],
+    c: Controls,
+    cells: &[f32],
+    regs: &[u64],
+    scr: &[f32],
+) -> Result<u64, Refusal> {
+    let needed = player::needs(sheet)?;
     let m = least(needed.cells, cells.len());
     let r = least(needed.registers, regs.len());
     let s = least(needed.scratch, scr.len());
-    hash::hash_state(c, &cells[..m], &regs[..r], &scr[..s])
-}
-
-fn not_played(whole: bool) -> Outcome {
-    Outcome {
-        difference: 1,
-        got: 0,
-        expected: 0,
-        samples: 0,
-        compared: false,
-        whole,
-    }
+    Ok(hash::hash_state(c, &cells[..m], &regs[..r], &scr[..s]))
 }
 
 // The outcome by the hashes; no state is compared where its hash must be 0.
 fn judged(head: Head, sound: Sound, state: u64) -> Outcome {
     let compared = head.state != 0;
-    let other = sound.hash != head.samples;
+    let difference = if sound.hash != head.samples {
+        Some(Difference::Samples(Hashes {
+            got: sound.hash,
+            expected: head.samples,
+        }))
+    } else if compared && state != head.state {
+        Some(Difference::State(Hashes {
+            got: state,
+            expected: head.state,
+        }))
+    } else {
+        None
+    };
     Outcome {
-        difference: if other {
-            2
-        } else if compared && state != head.state {
-            3
-        } else {
-            0
-        },
-        got: if other { sound.hash } else { state },
-        expected: if other { head.samples } else { head.state },
         samples: sound.samples,
         compared,
-        whole: true,
+        difference,
     }
-}
-
-// The controls at a position.
-fn placed(c: control::Controls, position: u64) -> control::Controls {
-    control::Controls {
-        position,
-        pitch: c.pitch,
-        target: c.target,
-        glide: c.glide,
-        bend: c.bend,
-    }
-}
-
-// Plays the calls of a voice that is built.
-fn perform(
-    sheet: &[u8],
-    head: Head,
-    kinds: &[u8],
-    xs: &[f32],
-    gs: &[f32],
-    lens: &[usize],
-    c: control::Controls,
-    answers: &mut [u8],
-    out: &mut [f32],
-    cells: &mut [f32],
-    regs: &mut [u64],
-    scr: &mut [f32],
-) -> Outcome {
-    let p = performance::play(
-        sheet, kinds, xs, gs, lens, c, answers, out, cells, regs, scr,
-    );
-    if !p.made || !all_zero(answers) {
-        return not_played(true);
-    }
-    let sound = sound_of(kinds, lens, out);
-    let state = state_of(sheet, p.controls, cells, regs, scr);
-    judged(head, sound, state)
 }
 
 // Builds a voice at its position, and plays its calls.
 fn replay(
     sheet: &[u8],
     head: Head,
-    kinds: &[u8],
-    xs: &[f32],
-    gs: &[f32],
-    lens: &[usize],
+    calls: &[Call],
     answers: &mut [u8],
     out: &mut [f32],
     cells: &mut [f32],
     regs: &mut [u64],
     scr: &mut [f32],
-) -> Outcome {
-    let b = player::build(sheet, control::fresh_controls(), cells, regs, scr);
-    if b.answer != 0 {
-        return not_played(true);
+) -> Result<Outcome, Refusal> {
+    let built = player::build(sheet, Controls::fresh(), cells, regs, scr)?;
+    let c = Controls {
+        position: head.position,
+        ..built
+    };
+    let Some(last) = performance::play(sheet, calls, c, answers, out, cells, regs, scr) else {
+        return Ok(NOT_PLAYED);
+    };
+    if answers.iter().any(|answer| *answer != 0) {
+        return Ok(NOT_PLAYED);
     }
-    let c = placed(b.controls, head.position);
-    perform(
-        sheet, head, kinds, xs, gs, lens, c, answers, out, cells, regs, scr,
-    )
+    let sound = sound_of(calls, out);
+    let state = state_of(sheet, last, cells, regs, scr)?;
+    Ok(judged(head, sound, state))
 }
 
-// Reads the calls, and plays the voice.
+// Reads the calls, lends a place to each, and plays the voice. `None` where the calls do not come whole.
 fn with_calls(
     input: &mut impl Read,
     sheet: &[u8],
     head: Head,
-    kinds: &mut [u8],
-    xs: &mut [f32],
-    gs: &mut [f32],
-    lens: &mut [usize],
-    answers: &mut [u8],
     out: &mut [f32],
     cells: &mut [f32],
     regs: &mut [u64],
     scr: &mut [f32],
-) -> io::Result<Outcome>
-    requires { (length xs.old ≡ length kinds.old) × (length gs.old ≡ length kinds.old) × (length lens.old ≡ length kinds.old) }
+) -> io::Result<Option<Outcome>>
+    requires { head.calls ≤ 64 }
 {
-    if !read_calls(input, kinds, xs, gs, lens)? {
-        return Ok(not_played(false));
-    }
-    Ok(replay(
-        sheet, head, kinds, xs, gs, lens, answers, out, cells, regs, scr,
-    ))
-}
-
-// Reads the sheet, and lends a place to each call.
-fn case(
-    input: &mut impl Read,
-    sheet: &mut [u8],
-    head: Head,
-    out: &mut [f32],
-    cells: &mut [f32],
-    regs: &mut [u64],
-    scr: &mut [f32],
-) -> io::Result<Outcome> {
+    let mut calls = [Call::Fill(0); CALLS];
+    let mut answers = [0u8; CALLS];
     let n = head.calls;
-    if n > 64 {
-        return Ok(not_played(false));
+    if !read_calls(input, &mut calls[..n])? {
+        return Ok(None);
     }
-    if read_full(input, sheet)? < sheet.len() {
-        return Ok(not_played(false));
-    }
-    let mut kinds = [0u8; 64];
-    let mut xs = [0.0f32; 64];
-    let mut gs = [0.0f32; 64];
-    let mut lens = [0usize; 64];
-    let mut answers = [0u8; 64];
-    with_calls(
-        input,
+    let outcome = replay(
         sheet,
         head,
-        &mut kinds[..n],
-        &mut xs[..n],
-        &mut gs[..n],
-        &mut lens[..n],
+        &calls[..n],
         &mut answers[..n],
         out,
         cells,
         regs,
         scr,
-    )
-}
-
-// ---- all cases
-
-fn next(n: u64) -> u64 {
-    std::num::wrapping_add_u64(n, 1)
-}
-
-fn ended(run: Run) -> Run {
-    let mut r = run;
-    r.more = false;
-    r
-}
-
-// A case that is cut short, or whose sheet or calls are more than what is lent, ends the run: where the next one starts is not known.
-fn counted(run: Run, outcome: Outcome) -> Run {
-    let mut r = run;
-    r.more = outcome.whole;
-    r.cases = next(run.cases);
-    r.samples = std::num::wrapping_add_u64(run.samples, outcome.samples);
-    if outcome.compared {
-        r.states = next(run.states);
-    }
-    if outcome.difference != 0 {
-        r.differences = next(run.differences);
-        if run.differences == 0 {
-            r.at = run.cases;
-            r.first = outcome;
-        }
-    }
-    r
+    );
+    Ok(Some(outcome.unwrap_or(NOT_PLAYED)))
 }
 
 // Reads a case, the sheet into buf, and plays it.
-fn step(
+fn next_case(
     input: &mut impl Read,
-    run: Run,
     buf: &mut [u8],
     out: &mut [f32],
     cells: &mut [f32],
     regs: &mut [u64],
     scr: &mut [f32],
-) -> io::Result<Run> {
+) -> io::Result<Next> {
     let mut bytes = [0u8; 32];
     let got = read_full(input, &mut bytes)?;
     if got == 0 {
-        return Ok(ended(run));
+        return Ok(Next::End);
     }
-    let head = head_of(&bytes);
+    let head = Head::from(bytes);
     let n = head.sheet;
-    if got < 32 || buf.len() < n {
-        return Ok(counted(run, not_played(false)));
+    if got < 32 || buf.len() < n || CALLS < head.calls {
+        return Ok(Next::Cut);
     }
-    let outcome = case(input, &mut buf[..n], head, out, cells, regs, scr)?;
-    Ok(counted(run, outcome))
+    if read_full(input, &mut buf[..n])? < n {
+        return Ok(Next::Cut);
+    }
+    let played = with_calls(input, &buf[..n], head, out, cells, regs, scr)?;
+    Ok(played.map_or(Next::Cut, |outcome| Next::Case(outcome)))
+}
+
+// ---- all cases
+
+// The cases so far, and the first of those that differ.
+#[derive(Clone, Copy)]
+struct Run {
+    cases: u64,
+    samples: u64,
+    states: u64,
+    differences: u64,
+    first: Option<(u64, Difference)>,
+}
+
+impl Run {
+    fn count(&mut self, outcome: Outcome) {
+        if let Some(difference) = outcome.difference {
+            self.differences = self.differences.wrapping_add(1);
+            if self.first.is_none() {
+                self.first = Some((self.cases, difference));
+            }
+        }
+        self.cases = self.cases.wrapping_add(1);
+        self.samples = self.samples.wrapping_add(outcome.samples);
+        self.states = self.states.wrapping_add(u64::from(outcome.compared));
+    }
 }
 
 // The turns are more than any input has, so that the loop ends.
@@ -417,52 +310,48 @@ fn run_all(
     regs: &mut [u64],
     scr: &mut [f32],
 ) -> io::Result<Run> {
-    let first = not_played(true);
     let mut run = Run {
-        more: true,
         cases: 0,
         samples: 0,
         states: 0,
         differences: 0,
-        at: 0,
-        first,
+        first: None,
     };
-    let mut turns = u64::MAX;
-    while turns > 0 && run.more {
-        run = step(input, run, buf, out, cells, regs, scr)?;
-        turns -= 1;
+    for _ in 0..u64::MAX {
+        match next_case(input, buf, out, cells, regs, scr)? {
+            Next::Case(outcome) => run.count(outcome),
+            Next::Cut => {
+                run.count(NOT_PLAYED);
+                return Ok(run);
+            }
+            Next::End => return Ok(run),
+        }
     }
     Ok(run)
 }
 
 // ---- the report
 
-fn say_hashes(output: &mut impl Write, name: &[u8], outcome: Outcome) -> io::Result<()> {
-    say(output, name)?;
-    say_hex(output, outcome.got, 16)?;
-    say(output, b" and must be ")?;
-    say_hex(output, outcome.expected, 16)?;
-    say(output, b"\n")
-}
-
-fn say_first(output: &mut impl Write, at: u64, outcome: Outcome) -> io::Result<()> {
-    say_count(output, b"the first at case ", at)?;
-    if outcome.difference == 1 {
-        return say(output, b"it is not played\n");
-    }
-    if outcome.difference == 2 {
-        return say_hashes(output, b"the hash of its samples is ", outcome);
-    }
-    say_hashes(output, b"the hash of its state is ", outcome)
+fn say_hashes(output: &mut impl Write, name: &str, h: Hashes) -> io::Result<()> {
+    writeln!(
+        output,
+        "the hash of its {name} is {:016x} and must be {:016x}",
+        h.got, h.expected
+    )
 }
 
 fn report(output: &mut impl Write, run: Run) -> io::Result<()> {
-    say_count(output, b"cases ", run.cases)?;
-    say_count(output, b"samples ", run.samples)?;
-    say_count(output, b"states ", run.states)?;
-    say_count(output, b"differences ", run.differences)?;
-    if run.differences > 0 {
-        say_first(output, run.at, run.first)?;
+    writeln!(output, "cases {}", run.cases)?;
+    writeln!(output, "samples {}", run.samples)?;
+    writeln!(output, "states {}", run.states)?;
+    writeln!(output, "differences {}", run.differences)?;
+    if let Some((at, difference)) = run.first {
+        writeln!(output, "the first at case {at}")?;
+        match difference {
+            Difference::NotPlayed => writeln!(output, "it is not played")?,
+            Difference::Samples(h) => say_hashes(output, "samples", h)?,
+            Difference::State(h) => say_hashes(output, "state", h)?,
+        }
     }
     Ok(())
 }
@@ -474,7 +363,7 @@ fn main(rt: HostRuntime) -> io::Result<()> {
     let mut regs = [0u64; 1024];
     let mut scr = [0.0f32; 16384];
     let run = run_all(
-        &mut rt.stdin(),
+        &mut BufReader::new(rt.alloc(), rt.stdin())?,
         &mut buf,
         &mut out,
         &mut cells,

@@ -1,5 +1,5 @@
 -- A record that plays by its own unit: its values first, each over the whole block, then the unit.
-use Rattle.std.specs.Prelude.{◌≡◌, refl, true, false, ◌≢◌, ℕ, suc, ◌-◌, ◌≤◌, ◌<◌, length, Float}
+use Rattle.std.specs.Prelude.{◌≡◌, refl, true, false, ◌≢◌, ℕ, suc, ◌+◌, ◌-◌, ◌^◌, ◌≤◌, ◌<◌, length, Float}
 use Rattle.std.proofs.Math.Path.{sym, ap}
 use Rattle.std.proofs.Common.{◌∙◌, subst, arith}
 use mathlib.Core.List.{List, [], ◌∷◌, map}
@@ -12,18 +12,17 @@ use Rattle.block.specs.Patch.{All, played, steps, leaf-none, leaf-one, leaf-two,
 use Rattle.control.specs.declared.Controls.{Controls}
 use Rattle.sheet.specs.Record.{count_of, kind}
 use Rattle.sheet.specs.Kinds.{Chain, empty, values, nodes, modes, steps as steps_of, row_of, is_fold, is_value}
-use Rattle.layout.specs.Built.{Role, out, silent, role, built, is_built, begin, after as after_of}
+use Rattle.layout.specs.Built.{role, built, is_built, begin, after as after_of}
 use Rattle.layout.specs.Good.{good}
-use Rattle.layout.specs.Tables.{role_code}
 use Rattle.layout.specs.Counts.{layout_of}
 use Rattle.layout.proofs.Contents.{Value, one_value, two-values, no-links}
 use Rattle.unit.specs.Own.{Own, silence}
 use Rattle.unit.specs.Unit.{unit_of}
 use Rattle.unit.specs.Voice.{voice, tree_kind, entered, playing}
 use Rattle.unit.specs.Sound.{OwnSound}
-use Rattle.units.specs.Values.{values_of, buffers_of, has_unit, leaf-chain, leaf-quiet, leaf-most, leaf-values, value-quiet}
+use Rattle.units.specs.Values.{values_of, buffers_of, leaf-chain, leaf-quiet, leaf-most, leaf-values, value-quiet}
 use Rattle.walk.specs.Nodes.{value-blind}
-use Rattle.walk.specs.Walk.{Sound, Voiced, Ready, Owned, Lends, Valued, Played, Leafed}
+use Rattle.walk.specs.Walk.{Sound, Voiced, Owned, Valued, Played, Leafed, leaf-is}
 
 playing-none : (c : Chain) → playing c 0 ≡ 0
 playing-none empty = refl
@@ -36,7 +35,7 @@ begin-none : (s : List ℕ) (i : ℕ) → is_built (role s i) ≡ false → begi
 unfolding begin
 begin-none s i b = rw b
 
-module _ {s : List ℕ} {count : ℕ} (v : Voiced s count) where
+module _ {s : List ℕ} (v : Voiced s) where
   pub leafed-silent : (i : ℕ) → i < count_of s → tree_kind (kind s i) ≡ leaf → is_built (role s i) ≡ false → (c : Controls) (xs cs : List Float) (rs : List ℕ) (ys : List Float) → Sound s cs rs
       → ys ≡ map (λ x. silence) xs → Leafed s i c xs cs rs ys cs rs
   unfolding played unit_of
@@ -124,29 +123,6 @@ module _ {s : List ℕ} {count : ℕ} (v : Voiced s count) where
   played-sound i h c xs bufs cs rs ys ds ss a p =
       subst (All (voice s) (OwnSound s)) (sym (ap (λ (t : List Float × Own). t.1) p.is)) (played-all (voice s) v.valid (OwnSound s) v.kept i h c xs bufs (cs, rs) a)
 
--- ---- what a record's own function is lent, by what the walk is lent
-module _ {s : List ℕ} {count : ℕ} {nexts acts begins afters places words : List ℕ} {c : Controls} {pitch : List Float} {n nv nw : ℕ} (r : Ready s count nexts acts begins afters places words c pitch n nv nw) where
-  owned-of : (i : ℕ) → i < count_of s → role s i ≡ built → Owned s count places words i
-  owned-of i h b = record { voiced = r.voiced; cells_at = r.cells_at; registers_at = r.registers_at; inside = omega (arith, r.voiced.passed.count); built_is = b }
-
-  pub lends-unit : (i : ℕ) → i < count_of s → role s i ≡ built → has_unit (kind s i) ≡ true → {mv mw : ℕ} → mv ≡ n → mw ≡ n → Lends s count places words i c pitch n mv mw
-  lends-unit i h b u p q = record { owned = owned-of i h b; unit_is = u; pitched = r.pitched; early = r.early; first_long = omega arith; second_long = omega arith }
-
-  -- record j of a table is value k of record i
-  pub lends-value : (i j k : ℕ) → j ≡ k → Value s (good s r.voiced.passed.passed) i k → {m : ℕ} → m ≡ n → Valued s count nexts places words j c m
-  lends-value i j k e w q = rw (e, q) (record { owned = owned-of k w.in_sheet w.made; next_at = r.next_at; value_is = w.value; early = r.early })
-
--- ---- roles by their numbers
-pub unbuilt-of : (r : Role) (a : ℕ) → a ≡ role_code r → a < 2 → is_built r ≡ false
-unbuilt-of out a e h = refl
-unbuilt-of silent a e h = refl
-unbuilt-of built a e h = let z : ⊥ = omega arith in absurd z
-
-pub built_of : (r : Role) (a : ℕ) → a ≡ role_code r → 2 ≤ a → r ≡ built
-built_of out a e h = let z : ⊥ = omega arith in absurd z
-built_of silent a e h = let z : ⊥ = omega arith in absurd z
-built_of built a e h = refl
-
 -- ---- what is said of a value by its number in a table, and of a leaf by how many values it has
 pub played-at : {s : List ℕ} {j k : ℕ} {c : Controls} {xs : List Float} {bufs : List (List Float)} {cs : List Float} {rs : List ℕ} {ys ds : List Float} {ss : List ℕ} → j ≡ k
     → Played s j c xs bufs cs rs ys ds ss → Played s k c xs bufs cs rs ys ds ss
@@ -162,3 +138,59 @@ leaf-two-is k m f d e p q = let l = leaf-most (row_of k).chain (leaf-chain k f d
 
 pub leaf-some : (k m : ℕ) → m ≡ values_of k → is_fold k ≡ false → k ≢ 13 → m ≢ 0 → (n : ℕ) × (values_of k ≡ suc n) × (n ≤ 1)
 leaf-some k m e f d p = let l = leaf-most (row_of k).chain (leaf-chain k f d) in (m - 1, omega arith, omega arith)
+
+-- ---- a leaf: what its values are lent, and what they leave
+pub record Leaf (s : List ℕ) (i : ℕ) (c : Controls) (nv nw : ℕ) : Type 0 where
+  pub owned : Owned s i
+  pub fold_not : is_fold (kind s i) ≡ false
+  pub chain_not : kind s i ≢ 13
+  pub same : nw ≡ nv
+  pub early : c.position + nv < 2 ^ 64
+
+-- the values of record i, in vs and ws, from cs and rs: whatever its unit then makes of a block of n, the leaf has made
+pub record Given (s : List ℕ) (i : ℕ) (c : Controls) (n : ℕ) (cs : List Float) (rs : List ℕ) (vs ws ds : List Float) (ss : List ℕ) : Type 0 where
+  pub sound : Sound s ds ss
+  pub then : (xs ys es : List Float) (ts : List ℕ) → length xs ≡ n → Played s i c xs (buffers_of (values_of (kind s i)) vs ws) ds ss ys es ts → Leafed s i c xs cs rs ys es ts
+
+module _ {s : List ℕ} (v : Voiced s) {i : ℕ} {c : Controls} {n nw : ℕ} (r : Leaf s i c n nw) where
+  -- record j is value k of record i
+  pub lends-value : (j k : ℕ) → j ≡ k → Value s (good s v.passed.passed) i k → {m : ℕ} → m ≡ n → Valued s j c m
+  lends-value j k e w q = rw (e, q) (record { owned = record { inside = w.in_sheet; built_is = w.made }; value_is = w.value; early = r.early })
+
+  pub given-none : {m : ℕ} → m ≡ values_of (kind s i) → m ≡ 0 → {cs : List Float} {rs : List ℕ} → Sound s cs rs → (vs ws : List Float) → Given s i c n cs rs vs ws cs rs
+  given-none e z {cs} {rs} a vs ws =
+      let q : values_of (kind s i) ≡ 0 = sym e ∙ z in
+      record {
+        sound = a;
+        then = λ xs ys es ts l p. leafed-none v i r.owned.inside (leaf-is s i r.fold_not r.chain_not) (leaf-none-is v i r.owned.inside r.fold_not r.chain_not q) c xs cs rs ys es ts a (leaf-played s i 0 c xs vs ws cs rs ys es ts q p);
+      }
+
+  pub first-value : {m : ℕ} → m ≡ values_of (kind s i) → m ≢ 0 → Value s (good s v.passed.passed) i (begin s i)
+  first-value e d = let q = leaf-some (kind s i) _ e r.fold_not r.chain_not d in value-one v i q.0 r.owned.inside r.owned.built_is q.1 q.2
+
+  pub second-value : {m : ℕ} → m ≡ values_of (kind s i) → m ≢ 0 → m ≢ 1 → Value s (good s v.passed.passed) i (after_of s (begin s i))
+  second-value e d f = value-two v i r.owned.inside r.owned.built_is (leaf-two-is (kind s i) _ r.fold_not r.chain_not e d f)
+
+  pub given-one : {m : ℕ} → m ≡ values_of (kind s i) → m ≡ 1 → {j : ℕ} → j ≡ begin s i → {bs cs : List Float} {rs : List ℕ} → Sound s cs rs → length bs ≡ n → (vs ws es : List Float) (ss : List ℕ) → Played s j c bs [] cs rs vs es ss → Given s i c n cs rs vs ws es ss
+  given-one e z ej {bs} {cs} {rs} a lb vs ws es ss p =
+      let q : values_of (kind s i) ≡ 1 = sym e ∙ z in
+      let w = value-one v i 0 r.owned.inside r.owned.built_is q (omega arith) in
+      let p1 = played-at ej p in
+      record {
+        sound = played-sound v (begin s i) w.in_sheet c bs [] cs rs vs es ss a p1;
+        then = λ xs ys fs ts l t. leafed-one v i r.owned.inside r.owned.built_is (leaf-is s i r.fold_not r.chain_not) q c xs bs cs rs vs es ss ys fs ts a (lb ∙ sym l) p1 (leaf-played s i 1 c xs vs ws es ss ys fs ts q t);
+      }
+
+  pub given-two : {m : ℕ} → m ≡ values_of (kind s i) → m ≢ 0 → m ≢ 1 → {j k : ℕ} → j ≡ begin s i → k ≡ after_of s j → {bs us cs : List Float} {rs : List ℕ} → Sound s cs rs → length bs ≡ n → length us ≡ n
+      → (vs ws es : List Float) (ss : List ℕ) (fs : List Float) (ts : List ℕ) → Played s j c bs [] cs rs vs es ss → Played s k c us [] es ss ws fs ts → Given s i c n cs rs vs ws fs ts
+  given-two e d f ej ek {bs} {us} {cs} {rs} a lb lu vs ws es ss fs ts p t =
+      let q = leaf-two-is (kind s i) _ r.fold_not r.chain_not e d f in
+      let x = first-value e d in
+      let y = second-value e d f in
+      let p1 = played-at ej p in
+      let p2 = played-at (ek ∙ ap (after_of s) ej) t in
+      let a1 = played-sound v (begin s i) x.in_sheet c bs [] cs rs vs es ss a p1 in
+      record {
+        sound = played-sound v (after_of s (begin s i)) y.in_sheet c us [] es ss ws fs ts a1 p2;
+        then = λ xs ys gs rs' l u. leafed-two v i r.owned.inside r.owned.built_is (leaf-is s i r.fold_not r.chain_not) q c xs bs us cs rs vs es ss ws fs ts ys gs rs' a (lb ∙ sym l) (lu ∙ sym l) p1 p2 (leaf-played s i 2 c xs vs ws fs ts ys gs rs' q u);
+      }

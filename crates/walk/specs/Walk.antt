@@ -1,5 +1,5 @@
 -- What the walk is lent for a block, and what it leaves: the block runs of the voice's theory (`source`, `along` and `played` of crate block's Patch).
-use Rattle.std.specs.Prelude.{◌≡◌, refl, Bool, true, false, cond, ◌||◌, ◌≢◌, ℕ, zero, suc, ◌+◌, ◌-◌, ◌^◌, ◌≤◌, ◌<◌, eqb, leb, get_or, take, drop}
+use Rattle.std.specs.Prelude.{◌≡◌, refl, Bool, true, false, cond, ◌||◌, ◌≢◌, ℕ, zero, suc, ◌+◌, ◌-◌, ◌^◌, ◌≤◌, ◌<◌, eqb, leb, take, drop}
 use Rattle.std.proofs.Math.Path.{sym, ap, subst₃}
 use Rattle.std.proofs.Common.{ap₂, ◌∙◌, subst, length-take, take-take, take_at, drop_at, drop-drop, eq-eqb, ne_eqb, leb-true}
 use mathlib.Core.List.{List, [], ◌∷◌, ◌++◌, map}
@@ -14,11 +14,13 @@ use Rattle.tree.specs.Tree.{Mode, piping, joining, leaf, fold, chain, bstep, bon
 use Rattle.tree.specs.Lists.{map-const, zip_length, lay-part}
 use Rattle.block.specs.Patch.{Valid, All, source, along, played, along-none, along-some, source-all}
 use Rattle.control.specs.declared.Controls.{Controls}
-use Rattle.sheet.specs.Record.{count_of, kind, next}
+use Rattle.sheet.specs.Record.{count_of, kind}
 use Rattle.sheet.specs.Kinds.{nodes, row_of, is_fold, is_value}
 use Rattle.layout.specs.Built.{role, built, begin, after}
 use Rattle.layout.specs.Needs.{cells, registers, scratch, cells_by, registers_by, cells_from, registers_from, scratch_from}
-use Rattle.layout.specs.Tables.{Table, Passed, role_code}
+use Rattle.layout.specs.Tables.{Passed}
+use Rattle.plan.specs.declared.Row.{Row}
+use Rattle.plan.specs.Rowed.{Rowed}
 use Rattle.layout.specs.Good.{good}
 use Rattle.layout.proofs.Laws.{playable}
 use Rattle.layout.specs.Counts.{cells-built, registers-built}
@@ -38,40 +40,30 @@ abbrev pub Sound : List ℕ → List Float → List ℕ → Type 0
 Sound s cs rs = All (voice s) (OwnSound s) (cs, rs)
 
 -- what holds of an accepted sheet: its voice is one, and its units keep check 9
-pub record Voiced (s : List ℕ) (count : ℕ) : Type 0 where
-  pub passed : Passed s count
+pub record Voiced (s : List ℕ) : Type 0 where
+  pub passed : Passed s (count_of s)
   pub valid : Valid (voice s)
   pub kept : UnitsKeep s
 
-pub voiced : {s : List ℕ} {count : ℕ} → Passed s count → Voiced s count
-voiced {s} p = record { passed = p; valid = voice-valid s p.passed; kept = units-keep s p.passed }
+pub voiced : {s : List ℕ} {count : ℕ} → Passed s count → Voiced s
+voiced {s} p = record { passed = subst (λ n. Passed s n) p.count p; valid = voice-valid s p.passed; kept = units-keep s p.passed }
 
--- the tables, and the buffers of a block of n samples
-pub record Ready (s : List ℕ) (count : ℕ) (nexts acts begins afters places words : List ℕ) (c : Controls) (pitch : List Float) (n nv nw : ℕ) : Type 0 where
-  pub voiced : Voiced s count
-  pub next_at : Table (next s) count nexts
-  pub act_at : Table (λ j. role_code (role s j)) count acts
-  pub begin_at : Table (begin s) count begins
-  pub after_at : Table (after s) count afters
-  pub cells_at : Table (cells_from s) (count + 1) places
-  pub registers_at : Table (registers_from s) (count + 1) words
+-- the buffers of a block of n samples
+pub record Ready (c : Controls) (pitch : List Float) (n nv nw : ℕ) : Type 0 where
   pub pitched : Pitched c pitch n
   pub short : n ≤ 256
   pub early : c.position + n < 2 ^ 64
   pub first_buffer : nv ≡ n
   pub second_buffer : nw ≡ n
 
--- what plays record i by itself is lent: the tables that say which parts are its own
-pub record Owned (s : List ℕ) (count : ℕ) (places words : List ℕ) (i : ℕ) : Type 0 where
-  pub voiced : Voiced s count
-  pub cells_at : Table (cells_from s) (count + 1) places
-  pub registers_at : Table (registers_from s) (count + 1) words
-  pub inside : i < count
+-- what plays by itself
+pub record Owned (s : List ℕ) (i : ℕ) : Type 0 where
+  pub inside : i < count_of s
   pub built_is : role s i ≡ built
 
 -- a node: of the two buffers, which hold its values
-pub record Lends (s : List ℕ) (count : ℕ) (places words : List ℕ) (i : ℕ) (c : Controls) (pitch : List Float) (n nv nw : ℕ) : Type 0 where
-  pub owned : Owned s count places words i
+pub record Lends (s : List ℕ) (i : ℕ) (c : Controls) (pitch : List Float) (n nv nw : ℕ) : Type 0 where
+  pub owned : Owned s i
   pub unit_is : has_unit (kind s i) ≡ true
   pub pitched : Pitched c pitch n
   pub early : c.position + n < 2 ^ 64
@@ -79,15 +71,10 @@ pub record Lends (s : List ℕ) (count : ℕ) (places words : List ℕ) (i : ℕ
   pub second_long : n ≤ nw
 
 -- a value
-pub record Valued (s : List ℕ) (count : ℕ) (nexts places words : List ℕ) (i : ℕ) (c : Controls) (n : ℕ) : Type 0 where
-  pub owned : Owned s count places words i
-  pub next_at : Table (next s) count nexts
+pub record Valued (s : List ℕ) (i : ℕ) (c : Controls) (n : ℕ) : Type 0 where
+  pub owned : Owned s i
   pub value_is : is_value (kind s i) ≡ true
   pub early : c.position + n < 2 ^ 64
-
-pub record Scratch (s : List ℕ) (count : ℕ) (blocks : List ℕ) (n : ℕ) : Type 0 where
-  pub scratch_at : Table (scratch_from s) (count + 1) blocks
-  pub room : scratch_from s (count_of s) ≤ n
 
 -- ---- what the functions leave
 pub record Played (s : List ℕ) (i : ℕ) (c : Controls) (xs : List Float) (bufs : List (List Float)) (cs : List Float) (rs : List ℕ) (ys ds : List Float) (ss : List ℕ) : Type 0 where
@@ -114,15 +101,11 @@ pub record Mixed (s : List ℕ) (i n : ℕ) (c : Controls) (cs : List Float) (rs
   pub kept : Kept s (scratch_from s i) zs ws
 
 -- ---- the same for other lengths
-pub ready-same : {s : List ℕ} {count : ℕ} {nexts acts begins afters places words : List ℕ} {c : Controls} {pitch : List Float} {n nv nw : ℕ}
-    → Ready s count nexts acts begins afters places words c pitch n nv nw → {m mv mw : ℕ} → m ≡ n → mv ≡ nv → mw ≡ nw → Ready s count nexts acts begins afters places words c pitch m mv mw
+pub ready-same : {c : Controls} {pitch : List Float} {n nv nw : ℕ} → Ready c pitch n nv nw → {m mv mw : ℕ} → m ≡ n → mv ≡ nv → mw ≡ nw → Ready c pitch m mv mw
 ready-same r p q t = rw (p, q, t) r
 
-pub scratch-same : {s : List ℕ} {count : ℕ} {blocks : List ℕ} {n : ℕ} → Scratch s count blocks n → {m : ℕ} → m ≡ n → Scratch s count blocks m
-scratch-same r p = rw p r
-
 -- what the walk of a record leaves is sound again
-pub sound-after : {s : List ℕ} {count : ℕ} → Voiced s count → (i : ℕ) → i < count_of s → (c : Controls) (xs cs : List Float) (rs : List ℕ) (ys ds : List Float) (ss : List ℕ)
+pub sound-after : {s : List ℕ} → Voiced s → (i : ℕ) → i < count_of s → (c : Controls) (xs cs : List Float) (rs : List ℕ) (ys ds : List Float) (ss : List ℕ)
     → Sound s cs rs → ◌≡◌ {A = List Float × Own} (ys, (ds, ss)) (source (voice s) i c xs (cs, rs)) → Sound s ds ss
 sound-after {s} v i h c xs cs rs ys ds ss a e =
     subst (All (voice s) (OwnSound s)) (sym (ap (λ (t : List Float × Own). t.1) e)) (source-all (voice s) v.valid (OwnSound s) v.kept i h c xs (cs, rs) a)
@@ -188,14 +171,18 @@ along-end s m c xs cs rs = sym (ap (λ (f : M Own (List Float)). f (cs, rs)) (al
 entered-nodes : (s : List ℕ) (i : ℕ) → (row_of (kind s i)).chain ≡ nodes → entered s i ≡ begin s i
 entered-nodes s i e = rw e
 
-pub begin-below : {s : List ℕ} {count : ℕ} → Passed s count → (i : ℕ) → begin s i < count_of s
+pub begin-below : {s : List ℕ} → Passed s (count_of s) → (i : ℕ) → begin s i < count_of s
 begin-below {s} p i = let w = playable s p.passed in elim (ℕ_discrete (begin s i) 0) [ yes e ↦ rw e w.some | no d ↦ w.begin_low i d ]
 
-pub after-below : {s : List ℕ} {count : ℕ} → Passed s count → (i : ℕ) → after s i < count_of s
+pub after-below : {s : List ℕ} → Passed s (count_of s) → (i : ℕ) → after s i < count_of s
 after-below {s} p i = let w = playable s p.passed in elim (ℕ_discrete (after s i) 0) [ yes e ↦ rw e w.some | no d ↦ w.after_low i d ]
 
--- the lengths, and what is sound, as a loop goes along
-pub record Chaining (s : List ℕ) (i : ℕ) (c : Controls) (xs cs : List Float) (rs : List ℕ) (zs : List Float) (nv nw : ℕ) (ys ds : List Float) (ss : List ℕ) (ws : List Float) (mv mw j : ℕ) : Type 0 where
+-- THE LOOP OF A CHAIN, OVER THE MODE m: from the block bs and what was lent, the records before j have made the block es, and what is left of
+-- the walk comes to the same. It keeps what the function was lent.
+pub record Walking (s : List ℕ) (i : ℕ) (m : Mode Float) (c : Controls) (pitch : List Float) (bs xs cs : List Float) (rs : List ℕ) (zs : List Float) (nv nw : ℕ) (es ys ds : List Float) (ss : List ℕ) (ws : List Float) (mv mw j : ℕ) : Type 0 where
+  pub voiced : Voiced s
+  pub ready : Ready c pitch (length ys) mv mw
+  pub room : scratch_from s (count_of s) ≤ length ws
   pub outs : length ys ≡ length xs
   pub cells_long : length ds ≡ length cs
   pub registers_long : length ss ≡ length rs
@@ -203,130 +190,122 @@ pub record Chaining (s : List ℕ) (i : ℕ) (c : Controls) (xs cs : List Float)
   pub first_buffer : mv ≡ nv
   pub second_buffer : mw ≡ nw
   pub sound : Sound s ds ss
+  pub holder : i < count_of s
+  pub holds : (row_of (kind s i)).chain ≡ nodes
   pub member : j ≢ 0 → Member s i j
   pub above : j ≢ 0 → i < j
   pub inside : j < count_of s
-  pub is : along (voice s) j piping c ys (ds, ss) ≡ along (voice s) (begin s i) piping c xs (cs, rs)
+  pub is : along (voice s) j m c es (ds, ss) ≡ along (voice s) (begin s i) m c bs (cs, rs)
   pub kept : Kept s (scratch_from s i) zs ws
 
-module _ {s : List ℕ} {count : ℕ} (v : Voiced s count) where
-  pub chain-start : (i : ℕ) → i < count_of s → (row_of (kind s i)).chain ≡ nodes → (c : Controls) (xs cs : List Float) (rs : List ℕ) (zs : List Float) (nv nw : ℕ) → Sound s cs rs → Chaining s i c xs cs rs zs nv nw xs cs rs zs nv nw (begin s i)
-  chain-start i h e c xs cs rs zs nv nw a = record {
-    outs = refl;
-    cells_long = refl;
-    registers_long = refl;
-    scr = refl;
-    first_buffer = refl;
-    second_buffer = refl;
-    sound = a;
-    member = begin-member s (good s v.passed.passed) i h e;
-    above = (playable s v.passed.passed).forest.first_up i;
-    inside = begin-below v.passed i;
-    is = refl;
-    kept = kept-all s (scratch_from s i) zs;
-  }
+abbrev pub Chaining : List ℕ → ℕ → Controls → List Float → List Float → List Float → List ℕ → List Float → ℕ → ℕ → List Float → List Float → List ℕ → List Float → ℕ → ℕ → ℕ → Type 0
+Chaining s i c pitch xs cs rs zs nv nw ys ds ss ws mv mw j = Walking s i piping c pitch xs xs cs rs zs nv nw ys ys ds ss ws mv mw j
 
-  scratch-up : (i j : ℕ) → i < j → scratch_from s i + scratch s i ≤ scratch_from s j
-  scratch-up i j h = (playable s v.passed.passed).scratch_apart i j h
+abbrev pub Mixing : List ℕ → ℕ → Controls → List Float → List Float → List Float → List ℕ → List Float → ℕ → ℕ → List Float → List Float → List ℕ → List Float → ℕ → ℕ → ℕ → Type 0
+Mixing s i c pitch xs cs rs zs nv nw ys ds ss ws mv mw j = Walking s i (joining (join_of (kind s i))) c pitch (mid (scratch_from s i) (length xs) zs) xs cs rs zs nv nw (mid (scratch_from s i) (length xs) ws) ys ds ss ws mv mw j
 
-  pub chain-again : (i : ℕ) → i < count_of s → (row_of (kind s i)).chain ≡ nodes → (c : Controls) (xs cs : List Float) (rs : List ℕ) (zs : List Float) (nv nw : ℕ) (ys ds : List Float) (ss : List ℕ) (ws : List Float) (mv mw j : ℕ) (ys' ds' : List Float) (ss' : List ℕ) (ws' : List Float) (mv' mw' : ℕ)
-      → Chaining s i c xs cs rs zs nv nw ys ds ss ws mv mw j → j ≢ 0 → Sourced s j c ys ds ss ws ys' ds' ss' ws'
-      → length ys' ≡ length ys → length ds' ≡ length ds → length ss' ≡ length ss → length ws' ≡ length ws → mv' ≡ mv → mw' ≡ mw
-      → Chaining s i c xs cs rs zs nv nw ys' ds' ss' ws' mv' mw' (after s j)
-  chain-again i hi e c xs cs rs zs nv nw ys ds ss ws mv mw j ys' ds' ss' ws' mv' mw' l d r e1 e2 e3 e4 e5 e6 =
-      let up = l.above d in
-      record {
-        outs = e1 ∙ l.outs;
-        cells_long = e2 ∙ l.cells_long;
-        registers_long = e3 ∙ l.registers_long;
-        scr = e4 ∙ l.scr;
-        first_buffer = e5 ∙ l.first_buffer;
-        second_buffer = e6 ∙ l.second_buffer;
-        sound = sound-after v j l.inside c ys ds ss ys' ds' ss' l.sound r.is;
-        member = after-member s (good s v.passed.passed) i j hi e (l.member d);
-        above = λ h. omega (arith, up, (playable s v.passed.passed).forest.next_up j h);
-        inside = after-below v.passed j;
-        is = chain-turn s v.valid j d l.inside c ys ds ss ys' ds' ss' r.is ∙ l.is;
-        kept = kept_then l.kept (kept_less r.kept (scratch_from s i) (omega (arith, scratch-up i j up)));
-      }
+scratch-up : {s : List ℕ} → Voiced s → (i j : ℕ) → i < j → scratch_from s i + scratch s i ≤ scratch_from s j
+scratch-up {s} v i j h = (playable s v.passed.passed).scratch_apart i j h
 
-  pub chain-end : (i : ℕ) (c : Controls) (xs cs : List Float) (rs : List ℕ) (zs : List Float) (nv nw : ℕ) (ys ds : List Float) (ss : List ℕ) (ws : List Float) (mv mw j : ℕ)
-      → (row_of (kind s i)).chain ≡ nodes → Chaining s i c xs cs rs zs nv nw ys ds ss ws mv mw j → j ≡ 0 → Chained s i c xs cs rs zs ys ds ss ws
-  chain-end i c xs cs rs zs nv nw ys ds ss ws mv mw j q l e = record { is = along-end s piping c ys ds ss ∙ rw (e, ← entered-nodes s i q) at l.is; kept = l.kept }
+pub walk-start : {s : List ℕ} {i : ℕ} {m : Mode Float} {c : Controls} {pitch bs xs cs : List Float} {rs : List ℕ} {zs : List Float} {nv nw j : ℕ} → Voiced s → Ready c pitch (length xs) nv nw
+    → scratch_from s (count_of s) ≤ length zs → Sound s cs rs → i < count_of s → (row_of (kind s i)).chain ≡ nodes → j ≡ begin s i → Walking s i m c pitch bs xs cs rs zs nv nw bs xs cs rs zs nv nw j
+walk-start {s} {i} {zs = zs} v r room a h e q =
+    rw q (record {
+      voiced = v;
+      ready = r;
+      room = room;
+      outs = refl;
+      cells_long = refl;
+      registers_long = refl;
+      scr = refl;
+      first_buffer = refl;
+      second_buffer = refl;
+      sound = a;
+      holder = h;
+      holds = e;
+      member = begin-member s (good s v.passed.passed) i h e;
+      above = (playable s v.passed.passed).forest.first_up i;
+      inside = begin-below v.passed i;
+      is = refl;
+      kept = kept-all s (scratch_from s i) zs;
+    })
 
-pub record Mixing (s : List ℕ) (i : ℕ) (c : Controls) (xs cs : List Float) (rs : List ℕ) (zs : List Float) (nv nw : ℕ) (ys ds : List Float) (ss : List ℕ) (ws : List Float) (mv mw j : ℕ) : Type 0 where
-  pub outs : length ys ≡ length xs
-  pub cells_long : length ds ≡ length cs
-  pub registers_long : length ss ≡ length rs
-  pub scr : length ws ≡ length zs
-  pub first_buffer : mv ≡ nv
-  pub second_buffer : mw ≡ nw
-  pub sound : Sound s ds ss
-  pub member : j ≢ 0 → Member s i j
-  pub above : j ≢ 0 → i < j
-  pub inside : j < count_of s
-  pub is : along (voice s) j (joining (join_of (kind s i))) c (mid (scratch_from s i) (length xs) ws) (ds, ss) ≡ along (voice s) (begin s i) (joining (join_of (kind s i))) c (mid (scratch_from s i) (length xs) zs) (cs, rs)
-  pub kept : Kept s (scratch_from s i) zs ws
+-- a record more: it leaves ds' and ss', and then es' and the scratch us
+walk-on : {s : List ℕ} {i : ℕ} {m : Mode Float} {c : Controls} {pitch bs xs cs : List Float} {rs : List ℕ} {zs : List Float} {nv nw : ℕ} {es ys ds : List Float} {ss : List ℕ} {ws : List Float} {mv mw j : ℕ}
+    (es' xs' ys' ds' : List Float) (ss' : List ℕ) (us : List Float) (mv' mw' : ℕ) → Walking s i m c pitch bs xs cs rs zs nv nw es ys ds ss ws mv mw j → j ≢ 0
+    → ◌≡◌ {A = List Float × Own} (ys', (ds', ss')) (source (voice s) j c xs' (ds, ss)) → along (voice s) (after s j) m c es' (ds', ss') ≡ along (voice s) j m c es (ds, ss)
+    → Kept s (scratch_from s i) ws us → length ys' ≡ length ys → length ds' ≡ length ds → length ss' ≡ length ss → length us ≡ length ws → mv' ≡ mv → mw' ≡ mw → (k : ℕ) → k ≡ after s j
+    → Walking s i m c pitch bs xs cs rs zs nv nw es' ys' ds' ss' us mv' mw' k
+walk-on {s} {i} {c = c} {ds = ds} {ss} {j = j} es' xs' ys' ds' ss' us mv' mw' l d r e w e1 e2 e3 e4 e5 e6 k q =
+    let v = l.voiced in
+    let up = l.above d in
+    rw q (record {
+      voiced = v;
+      ready = ready-same l.ready e1 e5 e6;
+      room = omega (arith, l.room);
+      outs = e1 ∙ l.outs;
+      cells_long = e2 ∙ l.cells_long;
+      registers_long = e3 ∙ l.registers_long;
+      scr = e4 ∙ l.scr;
+      first_buffer = e5 ∙ l.first_buffer;
+      second_buffer = e6 ∙ l.second_buffer;
+      sound = sound-after v j l.inside c xs' ds ss ys' ds' ss' l.sound r;
+      holder = l.holder;
+      holds = l.holds;
+      member = after-member s (good s v.passed.passed) i j l.holder l.holds (l.member d);
+      above = λ h. omega (arith, up, (playable s v.passed.passed).forest.next_up j h);
+      inside = after-below v.passed j;
+      is = e ∙ l.is;
+      kept = kept_then l.kept w;
+    })
 
-module _ {s : List ℕ} {count : ℕ} (v : Voiced s count) where
-  pub mix-start : (i : ℕ) → i < count_of s → (row_of (kind s i)).chain ≡ nodes → (c : Controls) (xs cs : List Float) (rs : List ℕ) (zs : List Float) (nv nw : ℕ) → Sound s cs rs → Mixing s i c xs cs rs zs nv nw xs cs rs zs nv nw (begin s i)
-  mix-start i h e c xs cs rs zs nv nw a = record {
-    outs = refl;
-    cells_long = refl;
-    registers_long = refl;
-    scr = refl;
-    first_buffer = refl;
-    second_buffer = refl;
-    sound = a;
-    member = begin-member s (good s v.passed.passed) i h e;
-    above = (playable s v.passed.passed).forest.first_up i;
-    inside = begin-below v.passed i;
-    is = refl;
-    kept = kept-all s (scratch_from s i) zs;
-  }
+pub chain-again : {s : List ℕ} {i : ℕ} {c : Controls} {pitch xs cs : List Float} {rs : List ℕ} {zs : List Float} {nv nw : ℕ} {ys ds : List Float} {ss : List ℕ} {ws : List Float} {mv mw j : ℕ} {ys' ds' : List Float} {ss' : List ℕ} {ws' : List Float} {mv' mw' : ℕ}
+    → Chaining s i c pitch xs cs rs zs nv nw ys ds ss ws mv mw j → j ≢ 0 → Sourced s j c ys ds ss ws ys' ds' ss' ws'
+    → length ys' ≡ length ys → length ds' ≡ length ds → length ss' ≡ length ss → length ws' ≡ length ws → mv' ≡ mv → mw' ≡ mw → {k : ℕ} → k ≡ after s j
+    → Chaining s i c pitch xs cs rs zs nv nw ys' ds' ss' ws' mv' mw' k
+chain-again {s} {i} {c = c} {ys = ys} {ds} {ss} {j = j} {ys'} {ds'} {ss'} {ws'} {mv'} {mw'} l d r e1 e2 e3 e4 e5 e6 q =
+    walk-on ys' ys ys' ds' ss' ws' mv' mw' l d r.is (chain-turn s l.voiced.valid j d l.inside c ys ds ss ys' ds' ss' r.is)
+    (kept_less r.kept (scratch_from s i) (omega (arith, scratch-up l.voiced i j (l.above d)))) e1 e2 e3 e4 e5 e6 _ q
 
-  pub mix-again : (i : ℕ) → i < count_of s → (row_of (kind s i)).chain ≡ nodes → (c : Controls) (xs cs : List Float) (rs : List ℕ) (zs : List Float) (nv nw : ℕ) (ys ds : List Float) (ss : List ℕ) (ws : List Float) (mv mw j : ℕ) (ys' ds' : List Float) (ss' : List ℕ) (ws' us : List Float) (mv' mw' : ℕ)
-      → scratch s i ≡ 256 → length xs ≤ 256 → scratch_from s (count_of s) ≤ length zs
-      → Mixing s i c xs cs rs zs nv nw ys ds ss ws mv mw j → j ≢ 0 → Sourced s j c (map (λ x. silence) ys) ds ss ws ys' ds' ss' ws'
-      → us ≡ put (scratch_from s i) (length ys') ws' (zip (join_of (kind s i)) (mid (scratch_from s i) (length ys') ws') ys')
-      → length ys' ≡ length ys → length ds' ≡ length ds → length ss' ≡ length ss → length ws' ≡ length ws → length us ≡ length ws' → mv' ≡ mv → mw' ≡ mw
-      → Mixing s i c xs cs rs zs nv nw ys' ds' ss' us mv' mw' (after s j)
-  mix-again i hi e c xs cs rs zs nv nw ys ds ss ws mv mw j ys' ds' ss' ws' us mv' mw' need short room l d r w e1 e2 e3 e4 e5 e6 e7 =
-      let up = l.above d in
-      let at = scratch_from s i in
-      let n = length xs in
-      let op = join_of (kind s i) in
-      let P = playable s v.passed.passed in
-      let l1 : length ys' ≡ n = e1 ∙ l.outs in
-      let l2 : at + 256 ≤ scratch_from s j = omega (arith, P.scratch_apart i j up) in
-      let l3 : at + n ≤ scratch_from s (count_of s) = omega (arith, P.scratch_end i hi) in
-      let l4 : at + n ≤ length ws' = omega (arith, l.scr) in
-      let l5 : n ≤ length (drop at ws') = simp length-drop (omega arith) in
-      let l6 : length (mid at n ws') ≡ n = length-take-le n (drop at ws') l5 in
-      let l7 : length (zip op (mid at n ws') ys') ≡ n = zip_length op (mid at n ws') ys' (l6 ∙ sym l1) ∙ l6 in
-      let k1 : mid at n ws' ≡ mid at n ws = kept-mid r.kept at n (omega (arith, l2)) in
-      let w' : us ≡ put at n ws' (zip op (mid at n ws') ys') = w ∙ ap (λ (m : ℕ). put at m ws' (zip op (mid at m ws') ys')) l1 in
-      let k2 : mid at n us ≡ zip op (mid at n ws) ys' = ap (mid at n) w' ∙ mid-put at n ws' (zip op (mid at n ws') ys') l4 l7 ∙ ap (λ (z : List Float). zip op z ys') k1 in
-      let k3 : length ys ≡ length (mid at n ws) = l.outs ∙ sym (ap length (sym k1) ∙ l6) in
-      record {
-        outs = l1;
-        cells_long = e2 ∙ l.cells_long;
-        registers_long = e3 ∙ l.registers_long;
-        scr = e5 ∙ e4 ∙ l.scr;
-        first_buffer = e6 ∙ l.first_buffer;
-        second_buffer = e7 ∙ l.second_buffer;
-        sound = sound-after v j l.inside c (map (λ x. silence) ys) ds ss ys' ds' ss' l.sound r.is;
-        member = after-member s (good s v.passed.passed) i j hi e (l.member d);
-        above = λ h. omega (arith, up, P.forest.next_up j h);
-        inside = after-below v.passed j;
-        is = ap (λ (z : List Float). along (voice s) (after s j) (joining op) c z (ds', ss')) k2 ∙ mix-turn s v.valid j d l.inside op c (mid at n ws) ys ds ss ys' ds' ss' k3 r.is ∙ l.is;
-        kept = kept_then l.kept (kept_then (kept_less r.kept at (omega (arith, l2))) (rw w' (put-kept s at n ws' (zip op (mid at n ws') ys') l3 l4 l7)));
-      }
+pub chain-end : {s : List ℕ} {i : ℕ} {c : Controls} {pitch xs cs : List Float} {rs : List ℕ} {zs : List Float} {nv nw : ℕ} {ys ds : List Float} {ss : List ℕ} {ws : List Float} {mv mw j : ℕ}
+    → Chaining s i c pitch xs cs rs zs nv nw ys ds ss ws mv mw j → j ≡ 0 → Chained s i c xs cs rs zs ys ds ss ws
+chain-end {s} {i} {c = c} {ys = ys} {ds} {ss} l e = record { is = along-end s piping c ys ds ss ∙ rw (e, ← entered-nodes s i l.holds) at l.is; kept = l.kept }
 
-  pub mix-end : (i : ℕ) (c : Controls) (xs cs : List Float) (rs : List ℕ) (zs : List Float) (nv nw : ℕ) (ys ds : List Float) (ss : List ℕ) (ws : List Float) (mv mw j : ℕ)
-      → (row_of (kind s i)).chain ≡ nodes → Mixing s i c xs cs rs zs nv nw ys ds ss ws mv mw j → j ≡ 0 → Mixed s i (length xs) c cs rs zs ds ss ws
-  mix-end i c xs cs rs zs nv nw ys ds ss ws mv mw j q l e = record { is = along-end s (joining (join_of (kind s i))) c (mid (scratch_from s i) (length xs) ws) ds ss ∙ rw (e, ← entered-nodes s i q) at l.is; kept = l.kept }
+pub mix-again : {s : List ℕ} {i : ℕ} {c : Controls} {pitch xs cs : List Float} {rs : List ℕ} {zs : List Float} {nv nw : ℕ} {ys ds : List Float} {ss : List ℕ} {ws : List Float} {mv mw j : ℕ} {ys' ds' : List Float} {ss' : List ℕ} {ws' us : List Float} {mv' mw' : ℕ} {ts : List Float} {k at : ℕ}
+    → scratch s i ≡ 256 → k ≡ kind s i → at ≡ scratch_from s i → Mixing s i c pitch xs cs rs zs nv nw ys ds ss ws mv mw j → j ≢ 0 → ts ≡ map (λ x. silence) ys → Sourced s j c ts ds ss ws ys' ds' ss' ws'
+    → us ≡ put at (length ys') ws' (zip (join_of k) (mid at (length ys') ws') ys')
+    → length ys' ≡ length ts → length ds' ≡ length ds → length ss' ≡ length ss → length ws' ≡ length ws → length us ≡ length ws' → mv' ≡ mv → mw' ≡ mw → {q : ℕ} → q ≡ after s j
+    → Mixing s i c pitch xs cs rs zs nv nw ys' ds' ss' us mv' mw' q
+mix-again {s} {i} {c = c} {xs = xs} {ys = ys} {ds} {ss} {ws} {j = j} {ys'} {ds'} {ss'} {ws'} {us} {mv'} {mw'} {ts} {k} {at = a} need ek ea l d et r w e1 e2 e3 e4 e5 e6 e7 qa =
+    let v = l.voiced in
+    let up = l.above d in
+    let at = scratch_from s i in
+    let n = length xs in
+    let op = join_of (kind s i) in
+    let P = playable s v.passed.passed in
+    let l0 : length ys' ≡ length ys = e1 ∙ ap length et ∙ length-map ys (λ x. silence) in
+    let l1 : length ys' ≡ n = l0 ∙ l.outs in
+    let short : n ≤ 256 = omega (arith, l.ready.short, l.outs) in
+    let l2 : at + 256 ≤ scratch_from s j = omega (arith, P.scratch_apart i j up) in
+    let l3 : at + n ≤ scratch_from s (count_of s) = omega (arith, P.scratch_end i l.holder) in
+    let l4 : at + n ≤ length ws' = omega (arith, l.room) in
+    let l5 : n ≤ length (drop at ws') = simp length-drop (omega arith) in
+    let l6 : length (mid at n ws') ≡ n = length-take-le n (drop at ws') l5 in
+    let l7 : length (zip op (mid at n ws') ys') ≡ n = zip_length op (mid at n ws') ys' (l6 ∙ sym l1) ∙ l6 in
+    let k1 : mid at n ws' ≡ mid at n ws = kept-mid r.kept at n (omega (arith, l2)) in
+    let w' : us ≡ put at n ws' (zip op (mid at n ws') ys') = w ∙ (λ x. put (ea x) (l1 x) ws' (zip (join_of (ek x)) (mid (ea x) (l1 x) ws') ys')) in
+    let k2 : mid at n us ≡ zip op (mid at n ws) ys' = ap (mid at n) w' ∙ mid-put at n ws' (zip op (mid at n ws') ys') l4 l7 ∙ ap (λ (z : List Float). zip op z ys') k1 in
+    let k3 : length ys ≡ length (mid at n ws) = l.outs ∙ sym (ap length (sym k1) ∙ l6) in
+    let ri : ◌≡◌ {A = List Float × Own} (ys', (ds', ss')) (source (voice s) j c (map (λ x. silence) ys) (ds, ss)) = r.is ∙ ap (λ (z : List Float). source (voice s) j c z (ds, ss)) et in
+    walk-on (mid at n us) (map (λ x. silence) ys) ys' ds' ss' us mv' mw' l d ri
+    (ap (λ (z : List Float). along (voice s) (after s j) (joining op) c z (ds', ss')) k2 ∙ mix-turn s v.valid j d l.inside op c (mid at n ws) ys ds ss ys' ds' ss' k3 ri)
+    (kept_then (kept_less r.kept at (omega (arith, l2))) (rw w' (put-kept s at n ws' (zip op (mid at n ws') ys') l3 l4 l7))) l0 e2 e3 (e5 ∙ e4) e6 e7 _ qa
 
+pub mix-end : {s : List ℕ} {i : ℕ} {c : Controls} {pitch xs cs : List Float} {rs : List ℕ} {zs : List Float} {nv nw : ℕ} {ys ds : List Float} {ss : List ℕ} {ws : List Float} {mv mw j : ℕ}
+    → Mixing s i c pitch xs cs rs zs nv nw ys ds ss ws mv mw j → j ≡ 0 → Mixed s i (length xs) c cs rs zs ds ss ws
+mix-end {s} {i} {c = c} {xs = xs} {ds = ds} {ss} {ws} l e = record { is = along-end s (joining (join_of (kind s i))) c (mid (scratch_from s i) (length xs) ws) ds ss ∙ rw (e, ← entered-nodes s i l.holds) at l.is; kept = l.kept }
+
+module _ {s : List ℕ} (v : Voiced s) where
   -- ---- a record that is a Chain, and one that is a Mix or a Mul
   pub sourced-chain : (i : ℕ) (c : Controls) (xs cs : List Float) (rs : List ℕ) (zs ys ds : List Float) (ss : List ℕ) (ws : List Float)
       → tree_kind (kind s i) ≡ chain → Chained s i c xs cs rs zs ys ds ss ws → Sourced s i c xs cs rs zs ys ds ss ws
@@ -383,65 +362,47 @@ leaf-left {k} {n} {f} p q e = let r = neither f (eqb n 13) e in (ap is_fold (sym
 unfoldable pub left : List ℕ → ℕ → ℕ
 left s j = cond (eqb j 0) 0 (count_of s - j)
 
-pub left_less : {s : List ℕ} {count : ℕ} → Passed s count → (j : ℕ) → j ≢ 0 → j < count_of s → left s (after s j) < left s j
+pub left_less : {s : List ℕ} → Passed s (count_of s) → (j : ℕ) → j ≢ 0 → j < count_of s → left s (after s j) < left s j
 unfolding left
 left_less {s} p j d h = let w = playable s p.passed in elim (ℕ_discrete (after s j) 0) [
   | yes e ↦ rw (e, ne_eqb j 0 d) (omega arith)
   | no n ↦ rw (ne_eqb (after s j) 0 n, ne_eqb j 0 d) (omega (arith, w.forest.next_up j n, w.after_low j n))
 ]
 
--- ---- a record's own parts, by the tables
-pub record Parts (s places words : List ℕ) (i nc nr : ℕ) : Type 0 where
-  pub ca : get_or places i 0 ≡ cells_from s i
-  pub ce : get_or places (i + 1) 0 ≡ cells_from s (i + 1)
-  pub ra : get_or words i 0 ≡ registers_from s i
-  pub re : get_or words (i + 1) 0 ≡ registers_from s (i + 1)
-  pub cup : get_or places i 0 ≤ get_or places (i + 1) 0
-  pub cin : get_or places (i + 1) 0 ≤ nc
-  pub cn : get_or places (i + 1) 0 - get_or places i 0 ≡ cells_by s i
-  pub rup : get_or words i 0 ≤ get_or words (i + 1) 0
-  pub rin : get_or words (i + 1) 0 ≤ nr
-  pub rn : get_or words (i + 1) 0 - get_or words i 0 ≡ registers_by s i
+-- ---- a record's own parts, by its row
+pub record Parts (s : List ℕ) (i : ℕ) (r : Row) (nc nr : ℕ) : Type 0 where
+  pub cup : r.cells ≤ r.cells_end
+  pub cin : r.cells_end ≤ nc
+  pub cn : r.cells_end - r.cells ≡ cells_by s i
+  pub rup : r.registers ≤ r.registers_end
+  pub rin : r.registers_end ≤ nr
+  pub rn : r.registers_end - r.registers ≡ registers_by s i
 
-pub parts-of : {s : List ℕ} {count : ℕ} {places words : List ℕ} {i : ℕ} → Owned s count places words i
-    → {cs : List Float} {rs : List ℕ} → Sound s cs rs → Parts s places words i (length cs) (length rs)
-parts-of {s} {i = i} l {cs} {rs} a =
-    let h = l.voiced.passed.count in
-    let q = l.inside in
-    let room = a.room i (omega arith) in
-    let ca = l.cells_at.at i (omega arith) in
-    let ce = l.cells_at.at (i + 1) (omega arith) in
-    let ra = l.registers_at.at i (omega arith) in
-    let re = l.registers_at.at (i + 1) (omega arith) in
+pub parts-of : {s : List ℕ} {i : ℕ} → Owned s i → {r : Row} → Rowed s i r → {cs : List Float} {rs : List ℕ} → Sound s cs rs → Parts s i r (length cs) (length rs)
+parts-of {s} {i} o w a =
+    let room = a.room i o.inside in
     let sc : cells_from s (i + 1) ≡ cells_from s i + cells s i = sum-suc (cells s) i in
     let sr : registers_from s (i + 1) ≡ registers_from s i + registers s i = sum-suc (registers s) i in
-    let bc = cells-built s i l.built_is in
-    let br = registers-built s i l.built_is in
+    let bc = cells-built s i o.built_is in
+    let br = registers-built s i o.built_is in
     record {
-      ca = ca;
-      ce = ce;
-      ra = ra;
-      re = re;
-      cup = omega arith;
-      cin = omega (arith, room.0);
-      cn = omega arith;
-      rup = omega arith;
-      rin = omega (arith, room.1);
-      rn = omega arith;
+      cup = omega (arith, w.cells_is, w.cells_end_is);
+      cin = omega (arith, room.0, w.cells_end_is);
+      cn = omega (arith, w.cells_is, w.cells_end_is);
+      rup = omega (arith, w.registers_is, w.registers_end_is);
+      rin = omega (arith, room.1, w.registers_end_is);
+      rn = omega (arith, w.registers_is, w.registers_end_is);
     }
 
--- the part of a table's row, and what the function of the record's kind is lent
-abbrev pub part : {A : Type 0} → List ℕ → ℕ → List A → List A
-part t i xs = take (get_or t (i + 1) 0 - get_or t i 0) (drop (get_or t i 0) xs)
-
-pub lent_of : {s : List ℕ} {count : ℕ} {places words : List ℕ} {i : ℕ} → Owned s count places words i → {cs : List Float} {rs : List ℕ} → Sound s cs rs → {k : ℕ} → k ≡ kind s i
-    → Lent s i k (length (part places i cs)) (length (part words i rs))
-lent_of o a e =
-    let w = parts-of o a in
+-- what the function of the record's kind is lent
+pub lent_of : {s : List ℕ} {i : ℕ} → Voiced s → Owned s i → {r : Row} → Rowed s i r → {cs : List Float} {rs : List ℕ} → Sound s cs rs
+    → Lent s i r.kind (length (take (r.cells_end - r.cells) (drop r.cells cs))) (length (take (r.registers_end - r.registers) (drop r.registers rs)))
+lent_of v o q a =
+    let w = parts-of o q a in
     record {
-      passed = o.voiced.passed.passed;
-      inside = omega (arith, o.inside, o.voiced.passed.count);
-      kind_is = e;
+      passed = v.passed.passed;
+      inside = o.inside;
+      kind_is = q.kind_is;
       cells = simp (length-take, length-drop) (omega (arith, w.cin, w.cup, w.cn));
       registers = simp (length-take, length-drop) (omega (arith, w.rin, w.rup, w.rn));
     }

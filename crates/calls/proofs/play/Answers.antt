@@ -1,56 +1,53 @@
--- `calls::play` meets its contract. Assumes nothing.
-use mathlib.Core.Path.{◌≡◌, sym, ◌∙◌}
-use Prim.Native.Nat.{◌+◌, ◌≤◌, ◌<◌}
-use native.Mathlib.Omega.{arith}
-use mathlib.Core.Bool.{true}
-use lib.ListN.{length}
+use Rattle.std.specs.Prelude.{◌≡◌, true, length}
+use Rattle.std.proofs.Common.{sym, ◌∙◌, arith, rules}
 use Rattle.control.specs.Moves.{left_for}
 use Rattle.machine.specs.Machine.{sound_ok}
 use Rattle.machine.proofs.Laws.{room-enough, room-passed}
-use Rattle.calls.specs.Calls.{fills-none, fills-all, fills-late, fills-unsound, set-of, sound-of}
-use borrow.Author.Rules.{rules}
+use Rattle.calls.specs.Calls.{fills-none, fills-all, fills-late, fills-unsound, planned_of, sound-of}
+use Rattle.calls.proofs.play.Given as given
 use Rattle.calls.proofs.play.Goals as goal
+use Rattle.calls.proofs.play.Goals.{Else-not-sound_ok, Else-not-positions_left}
+
+-- check 9 passed, and check 10
+sound : (g : given.Over) (c : Else-not-sound_ok g) → sound_ok c.args.sheet.now c.args.c c.args.cells.now c.args.regs.now ≡ true
+sound g c = sym c.sound_ok.ensures ∙ c.if-not-sound_ok.false
+
+left : (g : given.Over) (c : Else-not-positions_left g) → left_for c.args.c.position (length c.args.out.now) ≡ true
+left g c = sym c.positions_left.ensures ∙ c.if-not-positions_left.false
 
 pub returns-then-n-eq0 : goal.returns-then-n-eq0
-returns-then-n-eq0 c = let S = c.args.sheet.now in
-    let m = c.requires.0 in
-    let room = c.requires.1 in
-    let sound : sound_ok S c.args.c c.args.cells.now c.args.regs.now ≡ true = sym c.sound_ok.ensures ∙ c.if-sound_ok.true in
-    let left : left_for c.args.c.position (length c.args.out.now) ≡ true = sym c.positions_left.ensures ∙ c.if-positions_left.true in
-    fills-none S c.args.c c.args.out.now c.args.cells.now c.args.regs.now c.args.scr.now room sound left c.if-n-eq0.true
+returns-then-n-eq0 g c =
+    let d = goal.at.returns-then-n-eq0 g c in
+    fills-none c.args.sheet.now c.args.c c.args.out.now c.args.cells.now c.args.regs.now c.args.scr.now c.requires.1 (sound g d.Else-not-sound_ok) (left g d.Else-not-positions_left) c.if-n-eq0.true
+
+pub new-plan-requires : goal.new-plan-requires
+new-plan-requires g c = planned_of c.requires.0
 
 pub run-r-requires : goal.run-r-requires
-run-r-requires c = let S = c.args.sheet.now in
-    let m = c.requires.0 in
-    let room = c.requires.1 in
-    let sound : sound_ok S c.args.c c.args.cells.now c.args.regs.now ≡ true = sym c.sound_ok.ensures ∙ c.if-sound_ok.true in
-    let left : left_for c.args.c.position (length c.args.out.now) ≡ true = sym c.positions_left.ensures ∙ c.if-positions_left.true in
-    (set-of m (length c.args.cells.now) (length c.args.regs.now) (length c.args.scr.now) room, sound-of S c.args.c c.args.cells.now c.args.regs.now (length c.args.scr.now) room sound, left)
+run-r-requires g c =
+    let d = goal.at.run-r-requires g c in
+    let r = room-enough c.args.sheet.now (length c.args.cells.now) (length c.args.regs.now) (length c.args.scr.now) (room-passed c.args.sheet.now _ _ _ c.requires.1).1 in
+    rw c.new-plan.ensures (
+      r.scratch,
+      sound-of c.args.sheet.now c.args.c c.args.cells.now c.args.regs.now (length c.args.scr.now) c.requires.1 (sound g d.Else-not-sound_ok),
+      left g d.Else-not-positions_left,
+    )
 
 pub clear-requires : goal.clear-requires
-clear-requires c = let S = c.args.sheet.now in
-    let m = c.requires.0 in
-    let room = c.requires.1 in
-    let r = room-enough S (length c.args.cells.now) (length c.args.regs.now) (length c.args.scr.now) (room-passed S _ _ _ room).1 in
+clear-requires g c =
+    let r = room-enough c.args.sheet.now (length c.args.cells.now) (length c.args.regs.now) (length c.args.scr.now) (room-passed c.args.sheet.now _ _ _ c.requires.1).1 in
     omega (arith, c.requires.2, r.scratch, c.run-r.auto.scr)
 
-pub returns-then-positions_left : goal.returns-then-positions_left
-returns-then-positions_left c = let S = c.args.sheet.now in
-    let m = c.requires.0 in
-    let room = c.requires.1 in
-    let sound : sound_ok S c.args.c c.args.cells.now c.args.regs.now ≡ true = sym c.sound_ok.ensures ∙ c.if-sound_ok.true in
-    let left : left_for c.args.c.position (length c.args.out.now) ≡ true = sym c.positions_left.ensures ∙ c.if-positions_left.true in
-    fills-all S c.args.c c.args.out.now c.args.cells.now c.args.regs.now c.args.scr.now room sound left _ _ _ _ _ _ c.if-n-eq0.false c.run-r.ensures (rw c.requires.2 at c.clear.ensures)
+pub returns-then-not-sound_ok : goal.returns-then-not-sound_ok
+returns-then-not-sound_ok g c =
+    fills-unsound c.args.sheet.now c.args.c c.args.out.now c.args.cells.now c.args.regs.now c.args.scr.now c.requires.1 (sym c.sound_ok.ensures ∙ c.if-not-sound_ok.true)
 
-pub returns-then-sound_ok : goal.returns-then-sound_ok
-returns-then-sound_ok c = let S = c.args.sheet.now in
-    let m = c.requires.0 in
-    let room = c.requires.1 in
-    let sound : sound_ok S c.args.c c.args.cells.now c.args.regs.now ≡ true = sym c.sound_ok.ensures ∙ c.if-sound_ok.true in
-    fills-late S c.args.c c.args.out.now c.args.cells.now c.args.regs.now c.args.scr.now room sound (sym c.positions_left.ensures ∙ c.if-positions_left.false)
+pub returns-then-not-positions_left : goal.returns-then-not-positions_left
+returns-then-not-positions_left g c =
+    let d = goal.at.returns-then-not-positions_left g c in
+    fills-late c.args.sheet.now c.args.c c.args.out.now c.args.cells.now c.args.regs.now c.args.scr.now c.requires.1 (sound g d.Else-not-sound_ok) (sym c.positions_left.ensures ∙ c.if-not-positions_left.true)
 
 pub returns : goal.returns
-returns c = let S = c.args.sheet.now in
-    let m = c.requires.0 in
-    let room = c.requires.1 in
-    fills-unsound S c.args.c c.args.out.now c.args.cells.now c.args.regs.now c.args.scr.now room (sym c.sound_ok.ensures ∙ c.if-sound_ok.false)
+returns g c =
+    let d = goal.at.returns g c in
+    fills-all c.args.sheet.now c.args.c c.args.out.now c.args.cells.now c.args.regs.now c.args.scr.now c.requires.1 (sound g d.Else-not-sound_ok) (left g d.Else-not-positions_left) _ _ _ _ _ _ c.if-n-eq0.false (rw c.new-plan.ensures at c.run-r.ensures) (rw c.requires.2 at c.clear.ensures)

@@ -1,12 +1,11 @@
--- `cast::narrow_normal` meets its contract. Assumes nothing.
-use Rattle.std.proofs.Common.{◌≡◌, T, sym, subst, rules}
-use lib.Ieee.{binary64, fits}
+-- `cast::narrow_normal` meets its contract.
+use Rattle.std.proofs.Common.{T, sym, subst}
 use Rattle.cast.proofs.Normal.{Normal, normal, fits-narrow, no-nan-pattern}
 use Rattle.cast.proofs.narrow_normal.Goals as goal
 use Rattle.cast.proofs.narrow_normal.Goals.{Start}
 
 known : (c : Start) → Normal c.args.x
-known c = normal c.args.x (subst T (sym c.well_formed.0.1) tt) c.requires.fact_1 c.requires.fact_2 c.requires.fact_3
+known c = normal c.args.x (subst T (sym c.well_formed.0.1) tt) c.requires.number c.requires.not_below c.requires.not_above
 
 pub float_to_bits-bits : goal.float_to_bits-bits
 float_to_bits-bits c = (known c).number

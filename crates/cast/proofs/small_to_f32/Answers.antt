@@ -1,5 +1,5 @@
--- `cast::small_to_f32` meets its contract: the machine reads the i32 back from its bits, and that is n. Assumes nothing.
-use Rattle.std.proofs.Common.{◌≡◌, ℕ, ◌^◌, ◌<◌, T, ℤ, pos, sym, ap, subst, le_of_lt, arith, le→leb, w32, to_z, rules}
+-- `cast::small_to_f32` meets its contract: the machine reads the i32 back from its bits, and that is n.
+use Rattle.std.proofs.Common.{◌≡◌, ℕ, ◌^◌, ◌<◌, T, ℤ, pos, sym, ap, subst, le_of_lt, arith, le→leb, w32, to_z}
 use lib.Ieee.{binary32, in_float, of_int}
 use mir.ValLaws.{to_z_pos}
 use Rattle.cast.proofs.small_to_f32.Goals as goal

@@ -1,4 +1,4 @@
--- `cast::small_to_u64` meets its contract. Assumes nothing.
+-- `cast::small_to_u64` meets its contract.
 use Rattle.std.proofs.Common.{◌≡◌, ℕ, ◌+◌, ◌-◌, ◌≤◌, T, sym, subst, arith}
 use lib.Ieee.{binary32, fits}
 use Rattle.cast.proofs.Small.{Small, small, two-20}
@@ -9,7 +9,7 @@ held : (c : Start) → T (fits binary32 c.args.x)
 held c = subst T (sym c.well_formed.0.1) tt
 
 known : (c : Start) → Small c.args.x
-known c = small c.args.x (held c) c.requires.fact_1 c.requires.fact_2
+known c = small c.args.x (held c) c.requires.least c.requires.most
 
 less : (b n : ℕ) → b ≡ 1093664768 + n → 1093664768 ≤ b
 less b n e = omega arith

@@ -1,5 +1,5 @@
 -- `chains::members` meets its contract. The invariant: what is counted so far, each of the class, with what is left of the chain makes the whole. Assumes nothing.
-use mathlib.Core.Path.{sym, ap, ◌∙◌}
+use mathlib.Core.Path.{refl, sym, ap, ◌∙◌}
 use mathlib.Core.Bool.{Bool, true}
 use Prim.Native.Nat.{ℕ}
 use native.Mathlib.Omega.{arith}
@@ -19,10 +19,7 @@ loop-j-init c = walk_start _ _ _ _ _ _ (first_below c.requires.linked_in.linked.
 pub returns-then-class : goal.returns-then-class
 returns-then-class c =
     let l = c.loop-j in
-    record {
-      all_value = walk-stop c.requires.linked_in.linked l.invariant c.loop-j-test.true (ap (λ (k : ℕ). eqb k c.args.class) (sym c.class.ensures) ∙ ne_eqb _ _ c.if-class.true);
-      count_value = λ q. never (sym q);
-    }
+    rw (sym (walk-stop c.requires.linked_in.linked l.invariant c.loop-j-test.true (ap (λ (k : ℕ). eqb k c.args.class) (sym c.class.ensures) ∙ ne_eqb _ _ c.if-class.true))) refl
 
 pub overflow_add-count : goal.overflow_add-count
 overflow_add-count c = omega (arith, c.loop-j.invariant.room, c.well_formed.1.1.0)
@@ -38,4 +35,7 @@ loop-j-preserved c =
     walk_turn c.requires.linked_in.linked l.invariant c.loop-j-test.true {b = true} (sym (ap (λ (k : ℕ). eqb k c.args.class) (sym c.class.ensures) ∙ eq-eqb _ _ c.if-class.false))
 
 pub returns : goal.returns
-returns c = let l = c.loop-j in record { all_value = walk-all c.requires.linked_in.linked l.invariant c.loop-j-test.false; count_value = λ q. walk-count c.requires.linked_in.linked l.invariant c.loop-j-test.false }
+returns c =
+    let l = c.loop-j in
+    let k = c.requires.linked_in.linked in
+    rw (sym (walk-all k l.invariant c.loop-j-test.false), walk-count k l.invariant c.loop-j-test.false) refl

@@ -1,9 +1,11 @@
--- `chains::wanted` meets its contract. Assumes nothing.
+use Rattle.std.specs.Prelude.{ltb, max}
+use Rattle.std.proofs.Common.{◌∙◌, arith}
+use Rattle.std.proofs.Math.Decide.{dec_lt}
 use borrow.Author.Tests.{lt-ltb, le-ltb}
 use Rattle.chains.proofs.wanted.Goals as goal
 
-pub returns-then-c-lt2 : goal.returns-then-c-lt2
-returns-then-c-lt2 c = rw (lt-ltb _ _ c.if-c-lt2.true)
-
-pub returns-else-c-lt2 : goal.returns-else-c-lt2
-returns-else-c-lt2 c = rw (le-ltb _ _ c.if-c-lt2.false)
+pub returns : goal.returns
+returns c = elim (dec_lt c.args.c 2) [
+  | yes h ↦ c.max.ensures ∙ rw (lt-ltb c.args.c 2 h) (omega arith)
+  | no h ↦ c.max.ensures ∙ rw (le-ltb c.args.c 2 (omega arith)) (omega arith)
+]

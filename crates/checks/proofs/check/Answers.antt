@@ -1,83 +1,82 @@
--- `checks::check` meets its contract. Assumes nothing.
-use mathlib.Core.Path.{◌≡◌, sym, ◌∙◌}
-use mathlib.Core.Bool.{true}
-use Prim.Native.Nat.{◌≤◌}
-use native.Mathlib.Omega.{arith}
-use lib.ListN.{length}
-use lib.Seq.{length-take-le}
-use borrow.Author.Rules.{rules}
+use Rattle.std.specs.Prelude.{◌≡◌, ◌≢◌, true, false, List, ℕ, ◌≤◌, length}
+use Rattle.std.proofs.Common.{sym, ap, ◌∙◌, arith, rules, length-take-le}
+use Rattle.std.proofs.lemmas.Result.{err_from_is_err_and}
+use Rattle.refusal.specs.Refusal.{answer-ok, answer-err, passed-on}
 use Rattle.sheet.specs.Checks.{length_ok, header_ok}
-use Rattle.sheet.specs.Links.{Rows}
-use Rattle.sheet.specs.Accepted.{sized, checked-one, checked-two, checked-fault, checked-shape, tables-linked}
+use Rattle.sheet.specs.Accepted.{Sized, sized, checked-one, checked-two, checked-fault, checked-shape, tables-linked}
 use Rattle.checks.proofs.check.Goals as goal
-use Rattle.checks.proofs.check.Goals.{After-slice_known-then-header_ok-3-1}
+use Rattle.checks.proofs.check.Goals.{In_ok-decode}
 
--- after the pass over the records: checks 1 and 2 passed, and the tables have room for all
-module _ (c : After-slice_known-then-header_ok-3-1) where
-  length-is : length_ok c.args.sheet.now ≡ true
-  length-is = sym c.length_ok.ensures ∙ c.if-length_ok.true
+-- after the pass over the records, which found no fault: the tables have room for all
+module _ (c : In_ok-decode) where
+  size : Sized c.args.sheet.now
+  size = sized _ (sym c.length_ok.ensures ∙ c.if-not-length_ok.false)
 
-  header_is : header_ok c.args.sheet.now ≡ true
-  header_is = sym c.header_ok.ensures ∙ c.if-header_ok.true
+  kinds_long : c.count-n.result ≤ length c.decode.new.kinds
+  kinds_long = omega (arith, c.requires.0.enough size.long size.few, c.count-n.ensures.0, c.decode.auto.kinds)
 
-  rows_are : Rows c.args.sheet.now (length c.args.kinds.now)
-  rows_are = c.requires.0
+  first_long : c.count-n.result ≤ length c.decode.new.first
+  first_long = omega (arith, c.requires.0.enough size.long size.few, c.count-n.ensures.0, c.requires.1, c.decode.auto.first)
 
-  kinds_long : c.count-n.result ≤ length c.decode-fault.new.kinds
-  kinds_long = omega (arith, rows_are.enough (sized _ length-is).long (sized _ length-is).few, c.count-n.ensures.0, c.decode-fault.auto.kinds)
+  next_long : c.count-n.result ≤ length c.decode.new.next
+  next_long = omega (arith, c.requires.0.enough size.long size.few, c.count-n.ensures.0, c.requires.2, c.decode.auto.next)
 
-  first_long : c.count-n.result ≤ length c.decode-fault.new.first
-  first_long = omega (arith, rows_are.enough (sized _ length-is).long (sized _ length-is).few, c.count-n.ensures.0, c.requires.1, c.decode-fault.auto.first)
-
-  next_long : c.count-n.result ≤ length c.decode-fault.new.next
-  next_long = omega (arith, rows_are.enough (sized _ length-is).long (sized _ length-is).few, c.count-n.ensures.0, c.requires.2, c.decode-fault.auto.next)
+pub returns-then-not-length_ok : goal.returns-then-not-length_ok
+returns-then-not-length_ok c = checked-one _ _ _ _ (sym c.length_ok.ensures ∙ c.if-not-length_ok.true)
 
 pub header_ok-requires : goal.header_ok-requires
-header_ok-requires c = (sized _ (sym c.length_ok.ensures ∙ c.if-length_ok.true)).head
+header_ok-requires c = (sized _ (sym c.length_ok.ensures ∙ c.if-not-length_ok.false)).head
+
+pub returns-then-not-header_ok : goal.returns-then-not-header_ok
+returns-then-not-header_ok c = checked-two _ _ _ _ (sym c.length_ok.ensures ∙ c.if-not-length_ok.false) (sym c.header_ok.ensures ∙ c.if-not-header_ok.true)
 
 pub count-n-requires : goal.count-n-requires
-count-n-requires c = (sized _ (sym c.length_ok.ensures ∙ c.if-length_ok.true)).head
+count-n-requires c = (sized _ (sym c.length_ok.ensures ∙ c.if-not-length_ok.false)).head
 
-pub decode-fault-requires : goal.decode-fault-requires
-decode-fault-requires c = let z = sized _ (sym c.length_ok.ensures ∙ c.if-length_ok.true) in
+pub decode-requires : goal.decode-requires
+decode-requires c = let z = sized _ (sym c.length_ok.ensures ∙ c.if-not-length_ok.false) in
     let e = c.count-n.ensures.0 in
     let p = c.requires in
     let m = p.0.enough z.long z.few in record { n_value = (e, omega (arith, z.few, e), omega (arith, z.long, e)); n_in_bounds = (omega (arith, e, m), omega (arith, e, m, p.1), omega (arith, e, m, p.2)) }
 
-pub returns-then-fault-ne0 : goal.returns-then-fault-ne0
-returns-then-fault-ne0 c = checked-fault _ _ _ _ (length-is (goal.at.returns-then-fault-ne0 c).After-slice_known-then-header_ok-3-1) (header_is (goal.at.returns-then-fault-ne0 c).After-slice_known-then-header_ok-3-1) c.decode-fault.ensures c.if-fault-ne0.true
+pub returns-in_err-decode : goal.returns-in_err-decode
+returns-in_err-decode c =
+    let p = err_from_is_err_and c.from_residual.result c.from_residual.ensures.1 in
+    rw (passed-on c.in_err-decode.was p.1 p.2)
+    (checked-fault _ _ _ _ (sym c.length_ok.ensures ∙ c.if-not-length_ok.false) (sym c.header_ok.ensures ∙ c.if-not-header_ok.false) c.decode.ensures (answer-err c.in_err-decode.was))
 
 pub slice_bounds-shape-end : goal.slice_bounds-shape-end
-slice_bounds-shape-end c = kinds_long (goal.at.slice_bounds-shape-end c).After-slice_known-then-header_ok-3-1
+slice_bounds-shape-end c = kinds_long (goal.at.slice_bounds-shape-end c).In_ok-decode
 
-pub slice_bounds-shape-end-then-header_ok : goal.slice_bounds-shape-end-then-header_ok
-slice_bounds-shape-end-then-header_ok c = sym (length-take-le _ _ (kinds_long (goal.at.slice_bounds-shape-end-then-header_ok c).After-slice_known-then-header_ok-3-1))
+pub slice_bounds-shape-end-2 : goal.slice_bounds-shape-end-2
+slice_bounds-shape-end-2 c = sym (length-take-le _ _ (kinds_long (goal.at.slice_bounds-shape-end-2 c).In_ok-decode))
 
-pub slice_bounds-shape-end-then-header_ok-2 : goal.slice_bounds-shape-end-then-header_ok-2
-slice_bounds-shape-end-then-header_ok-2 c = first_long (goal.at.slice_bounds-shape-end-then-header_ok-2 c).After-slice_known-then-header_ok-3-1
+pub slice_bounds-shape-end-3 : goal.slice_bounds-shape-end-3
+slice_bounds-shape-end-3 c = first_long (goal.at.slice_bounds-shape-end-3 c).In_ok-decode
 
-pub slice_bounds-shape-end-then-header_ok-3 : goal.slice_bounds-shape-end-then-header_ok-3
-slice_bounds-shape-end-then-header_ok-3 c = sym (length-take-le _ _ (first_long (goal.at.slice_bounds-shape-end-then-header_ok-3 c).After-slice_known-then-header_ok-3-1))
+pub slice_bounds-shape-end-4 : goal.slice_bounds-shape-end-4
+slice_bounds-shape-end-4 c = sym (length-take-le _ _ (first_long (goal.at.slice_bounds-shape-end-4 c).In_ok-decode))
 
-pub slice_bounds-shape-end-then-header_ok-4 : goal.slice_bounds-shape-end-then-header_ok-4
-slice_bounds-shape-end-then-header_ok-4 c = next_long (goal.at.slice_bounds-shape-end-then-header_ok-4 c).After-slice_known-then-header_ok-3-1
+pub slice_bounds-shape-end-5 : goal.slice_bounds-shape-end-5
+slice_bounds-shape-end-5 c = next_long (goal.at.slice_bounds-shape-end-5 c).In_ok-decode
 
-pub slice_bounds-shape-end-then-header_ok-5 : goal.slice_bounds-shape-end-then-header_ok-5
-slice_bounds-shape-end-then-header_ok-5 c = sym (length-take-le _ _ (next_long (goal.at.slice_bounds-shape-end-then-header_ok-5 c).After-slice_known-then-header_ok-3-1))
+pub slice_bounds-shape-end-6 : goal.slice_bounds-shape-end-6
+slice_bounds-shape-end-6 c = sym (length-take-le _ _ (next_long (goal.at.slice_bounds-shape-end-6 c).In_ok-decode))
 
 pub shape-requires : goal.shape-requires
-shape-requires c = let z = sized _ (length-is (goal.at.shape-requires c).After-slice_known-then-header_ok-3-1) in
+shape-requires c =
+    let d = (goal.at.shape-requires c).In_ok-decode in
+    let z = size d in
     let e = c.count-n.ensures.0 in
-    let k = length-take-le _ _ (kinds_long (goal.at.shape-requires c).After-slice_known-then-header_ok-3-1) in
-    let f = length-take-le _ _ (first_long (goal.at.shape-requires c).After-slice_known-then-header_ok-3-1) in record { links_in = tables-linked _ _ _ _ (length-is (goal.at.shape-requires c).After-slice_known-then-header_ok-3-1) (header_is (goal.at.shape-requires c).After-slice_known-then-header_ok-3-1) c.decode-fault.ensures c.if-fault-ne0.false e (kinds_long (goal.at.shape-requires c).After-slice_known-then-header_ok-3-1) (first_long (goal.at.shape-requires c).After-slice_known-then-header_ok-3-1) (next_long (goal.at.shape-requires c).After-slice_known-then-header_ok-3-1); kinds_len = (k ∙ sym f, omega (arith, f, e, z.some), omega (arith, f, e, z.few)) }
-
-pub returns-then-header_ok : goal.returns-then-header_ok
-returns-then-header_ok c =
-    checked-shape _ _ _ _ (length-is (goal.at.returns-then-header_ok c).After-slice_known-then-header_ok-3-1) (header_is (goal.at.returns-then-header_ok c).After-slice_known-then-header_ok-3-1) c.decode-fault.ensures c.if-fault-ne0.false c.count-n.ensures.0
-    (kinds_long (goal.at.returns-then-header_ok c).After-slice_known-then-header_ok-3-1) (first_long (goal.at.returns-then-header_ok c).After-slice_known-then-header_ok-3-1) (next_long (goal.at.returns-then-header_ok c).After-slice_known-then-header_ok-3-1) c.shape.ensures
-
-pub returns-then-length_ok : goal.returns-then-length_ok
-returns-then-length_ok c = checked-two _ _ _ _ (sym c.length_ok.ensures ∙ c.if-length_ok.true) (sym c.header_ok.ensures ∙ c.if-header_ok.false)
+    let k = length-take-le _ _ (kinds_long d) in
+    let f = length-take-le _ _ (first_long d) in
+    record {
+      links_in = tables-linked _ _ _ _ (sym c.length_ok.ensures ∙ c.if-not-length_ok.false) (sym c.header_ok.ensures ∙ c.if-not-header_ok.false) c.decode.ensures (answer-ok c.in_ok-decode.was) e (kinds_long d) (first_long d) (next_long d);
+      kinds_len = (k ∙ sym f, omega (arith, f, e, z.some), omega (arith, f, e, z.few));
+    }
 
 pub returns : goal.returns
-returns c = checked-one _ _ _ _ (sym c.length_ok.ensures ∙ c.if-length_ok.false)
+returns c =
+    let d = (goal.at.returns c).In_ok-decode in
+    checked-shape _ _ _ _ (sym c.length_ok.ensures ∙ c.if-not-length_ok.false) (sym c.header_ok.ensures ∙ c.if-not-header_ok.false) c.decode.ensures (answer-ok c.in_ok-decode.was) c.count-n.ensures.0
+    (kinds_long d) (first_long d) (next_long d) c.shape.ensures

@@ -1,27 +1,8 @@
--- `combine::mul` meets its contract. Assumes nothing.
-use mathlib.Core.Path.{◌≡◌, refl, sym, ap, ◌∙◌}
-use Prim.Native.Nat.{◌-◌, ◌≤◌, ◌<◌}
-use native.Mathlib.Omega.{arith}
-use lib.ListN.{length, get_or}
-use lib.Ieee.{Float, nan}
-use borrow.Author.Rules.{rules}
+use Rattle.std.proofs.Common.{rules, ◌≡◌, ◌∙◌}
+use Rattle.std.specs.List.{fold}
 use Rattle.float.specs.Single.{◌⊗◌, one}
-use Rattle.combine.specs.Combine.{folded, folded_more}
+use Rattle.combine.proofs.Folds.{fold-is}
 use Rattle.combine.proofs.mul.Goals as goal
 
-pub loop-k-init : goal.loop-k-init
-unfolding folded
-loop-k-init c = (omega arith, refl)
-
-pub loop-k-preserved : goal.loop-k-preserved
-loop-k-preserved c =
-    let l = c.loop-k in
-    let xs = c.args.xs.now in
-    (omega arith, ap (λ (y : Float). y ⊗ get_or xs l.k nan) l.invariant.1 ∙ sym (folded_more ◌⊗◌ one xs l.k))
-
 pub returns : goal.returns
-returns c =
-    let l = c.loop-k in
-    let xs = c.args.xs.now in
-    let e : l.k ≡ length xs = omega arith in
-    l.invariant.1 ∙ ap (folded ◌⊗◌ one xs) e
+returns c = let e : c.fold.result ≡ fold ◌⊗◌ one c.args.xs.now = search rules in e ∙ fold-is ◌⊗◌ one c.args.xs.now

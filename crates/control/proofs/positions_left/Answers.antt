@@ -1,7 +1,4 @@
--- `control::positions_left` meets its contract. Assumes nothing.
-use mathlib.Core.Path.{◌≡◌, sym, ◌∙◌}
-use Prim.Native.Nat.{ℕ, ◌+◌, ◌-◌, ◌^◌, ◌≤◌, ◌<◌}
-use native.Mathlib.Omega.{arith}
+use Rattle.std.proofs.Common.{◌≡◌, sym, ◌∙◌, ℕ, ◌+◌, ◌-◌, ◌≤◌, arith}
 use native.Mathlib.Decide.{dec_lt}
 use lib.Dec.{leb}
 use borrow.Author.Tests.{le-leb, lt-leb}
@@ -15,10 +12,10 @@ moved p l m h = elim (dec_lt m (p + l)) [
   | no g ↦ le-leb p (m - l) (omega arith) ∙ sym (le-leb (p + l) m (omega arith))
 ]
 
-pub returns-then-length-gt4611686018427387904 : goal.returns-then-length-gt4611686018427387904
+pub returns-then-length-le-POSITIONS : goal.returns-then-length-le-POSITIONS
 unfolding left_for
-returns-then-length-gt4611686018427387904 c = let a = c.args in sym (lt-leb (a.position + a.length) (2 ^ 62) (omega arith))
+returns-then-length-le-POSITIONS c = moved _ _ _ (omega arith)
 
-pub returns : goal.returns
+pub returns-else-length-le-POSITIONS : goal.returns-else-length-le-POSITIONS
 unfolding left_for
-returns c = let a = c.args in moved a.position a.length (2 ^ 62) (omega arith)
+returns-else-length-le-POSITIONS c = lt-leb c.args.length _ (omega arith) ∙ sym (lt-leb (c.args.position + c.args.length) _ (omega arith))

@@ -1,4 +1,3 @@
--- `det::ln_folded` meets its contract. Assumes nothing.
 use mathlib.Core.Path.{◌≡◌, sym, ap, ◌∙◌, subst}
 use mathlib.Core.Bool.{Bool, true, false, cond}
 use Prim.Native.Nat.{ℕ, suc, ◌+◌, ◌-◌, ◌^◌, ◌<◌}
@@ -10,7 +9,6 @@ use lib.Ieee.{binary64, of_int}
 use mir.Syntax.{w32}
 use mir.Val.{SFits, of_z, to_z}
 use mir.ValLaws.{to_z-of_z}
-use borrow.Author.Rules.{rules}
 use Rattle.double.specs.Double.{◌⊕◌, ◌⊗◌, half}
 use Rattle.det.specs.Log.{ln_series, ln_folded}
 use Rattle.det.proofs.ln_folded.Goals as goal
@@ -47,7 +45,7 @@ returns-then-m c =
     let read = ap (λ (z : ℤ). to_z w32 (of_z w32 z)) (sum_is (goal.at.returns-then-m c).Then-m) ∙ to_z-of_z w32 (k +ℤ pos 1) (next_fits k c.ranges.k c.requires) in
     c.ln_series.ensures ∙ ap (λ (z : ℤ). ln_series (c.args.m ⊗ half) (of_int binary64 z ⊕ c.args.scale)) read ∙ rw c.if-m.true
 
-pub returns : goal.returns
+pub returns-else-m : goal.returns-else-m
 unfolding ln_folded
-returns c =
-    c.ln_series-2.ensures ∙ ap (λ (z : ℤ). ln_series c.args.m (of_int binary64 z ⊕ c.args.scale)) (to_z-of_z w32 c.args.k c.ranges.k) ∙ rw c.if-m.false
+returns-else-m c =
+    c.ln_series-else-m.ensures ∙ ap (λ (z : ℤ). ln_series c.args.m (of_int binary64 z ⊕ c.args.scale)) (to_z-of_z w32 c.args.k c.ranges.k) ∙ rw c.if-m.false

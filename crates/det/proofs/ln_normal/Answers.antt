@@ -1,11 +1,9 @@
--- `det::ln_normal` meets its contract. Assumes nothing.
 use mathlib.Core.Path.{sym, subst}
 use lib.IntN.{ℤ, pos}
 use lib.Dec.{T}
 use lib.Signed.{lt_z}
 use mir.Syntax.{w32}
 use mir.ValLaws.{to_z-of_z}
-use borrow.Author.Rules.{rules}
 use Rattle.det.proofs.ln_normal.Goals as goal
 
 pub ln_folded-requires : goal.ln_folded-requires

@@ -1,4 +1,3 @@
--- `det::ln_series` meets its contract: the definition is the code's own arithmetic. Assumes nothing.
 use mathlib.Core.Path.{refl}
 use Rattle.double.specs.Double.{horner}
 use Rattle.det.specs.Log.{ln_series}

@@ -1,5 +1,3 @@
--- `det::log10` meets its contract: the code's constant is ln 10 as the definition computes it. Assumes nothing.
-use borrow.Author.Rules.{rules}
 use Rattle.det.specs.Log.{log10_of}
 use Rattle.det.proofs.Ten.{ln-ten}
 use Rattle.det.proofs.log10.Goals as goal

@@ -1,6 +1,4 @@
--- `det::powf_by` meets its contract. Assumes nothing.
 use mathlib.Core.Path.{◌∙◌}
-use borrow.Author.Rules.{rules}
 use Rattle.ieee.proofs.Tests.{zero-by-zero-64}
 use Rattle.det.specs.Log.{pow_of}
 use Rattle.double.proofs.Tests.{one-by-zero}
@@ -22,7 +20,7 @@ pub returns-then-x-2 : goal.returns-then-x-2
 unfolding pow_of
 returns-then-x-2 c = zero-by-zero-64 ∙ rw (c.if-y.false, c.if-x.false, c.if-x-2.true)
 
-pub returns : goal.returns
+pub returns-else-x-2 : goal.returns-else-x-2
 unfolding pow_of
-returns c =
+returns-else-x-2 c =
     rw (c.exp.ensures, c.requires, c.if-y.false, c.if-x.false, c.if-x-2.false)

@@ -1,5 +1,3 @@
--- `det::powff` meets its contract. Assumes nothing.
-use borrow.Author.Rules.{rules}
 use Rattle.det.proofs.powff.Goals as goal
 
 pub returns : goal.returns

@@ -1,5 +1,3 @@
--- `det::powff_by` meets its contract. Assumes nothing.
-use borrow.Author.Rules.{rules}
 use Rattle.det.proofs.powff_by.Goals as goal
 
 pub powf_by-requires : goal.powf_by-requires

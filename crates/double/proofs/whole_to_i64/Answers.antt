@@ -1,11 +1,9 @@
--- `double::whole_to_i64` meets its contract. Assumes nothing.
 use mathlib.Core.Path.{sym, ◌∙◌, subst}
 use lib.Dec.{T}
 use lib.Ieee.{binary64, add, to_signed}
 use lib.Ieee.Casts.{to_signed_in}
 use mir.Syntax.{w64}
 use mir.ValLaws.{to_z-of_z}
-use borrow.Author.Rules.{rules}
 use Rattle.ieee.proofs.Tests.{null, yes, zero-64, two-52}
 use Rattle.double.proofs.Small.{Small, small}
 use Rattle.double.proofs.whole_to_i64.Goals as goal

@@ -1,7 +1,6 @@
--- `dsp::modal_coeffs` meets its contract. Assumes nothing.
-use mathlib.Core.Path.{◌≡◌, refl}
-use lib.Ieee.{binary32, neg, of_bits}
-use borrow.Author.Rules.{rules}
+use Rattle.std.proofs.Common.{◌≡◌, refl}
+use Rattle.std.specs.Float.{binary32}
+use Rattle.std.specs.Float.Ieee.{neg, of_bits}
 use Rattle.dsp.specs.Coefficients.{modal_of}
 use Rattle.dsp.proofs.modal_coeffs.Goals as goal
 

@@ -1,7 +1,5 @@
--- `exp::exp` meets its contract. Assumes nothing.
 use mathlib.Core.Path.{◌≡◌, refl, ap, ◌∙◌}
 use lib.Ieee.{binary64, of_bits}
-use borrow.Author.Rules.{rules}
 use Rattle.ieee.proofs.Tests.{yes}
 use Rattle.cast.proofs.Normal.{neg-neg}
 use Rattle.exp.specs.Exp.{exp_of}
@@ -17,10 +15,10 @@ unfolding of_bits
 far = refl
 
 pub exp_above-requires : goal.exp_above-requires
-exp_above-requires c = record { fact_1 = yes (rw near at c.if-x.true); fact_2 = yes (rw far at c.if-x-2.true) }
+exp_above-requires c = record { least = yes (rw near at c.if-x.true); most = yes (rw far at c.if-x-2.true) }
 
 pub exp_minus-requires : goal.exp_minus-requires
-exp_minus-requires c = record { fact_1 = yes (rw near at c.if-m.true); fact_2 = yes (rw far at c.if-m-2.true) }
+exp_minus-requires c = record { least = yes (rw near at c.if-m.true); most = yes (rw far at c.if-m-2.true) }
 
 pub returns-then-m-2 : goal.returns-then-m-2
 returns-then-m-2 c = c.exp_minus.ensures ∙ ap exp_of (neg-neg c.args.x)

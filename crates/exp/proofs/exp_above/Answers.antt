@@ -1,6 +1,4 @@
--- `exp::exp_above` meets its contract. Assumes nothing.
 use lib.Ieee.{binary64, mul, of_bits}
-use borrow.Author.Rules.{rules}
 use Rattle.ieee.proofs.Tests.{no, half-64}
 use Rattle.exp.specs.Exp.{inv_ln2, exp_of}
 use Rattle.exp.proofs.Above.{Sum, quotient, under-max, over-min}
@@ -8,7 +6,7 @@ use Rattle.exp.proofs.exp_above.Goals as goal
 use Rattle.exp.proofs.exp_above.Goals.{Start}
 
 view : (c : Start) → Sum (of_bits binary64 0x4330_0000_0000_0000) (mul binary64 c.args.x inv_ln2)
-view c = quotient c.args.x c.requires.fact_1 c.requires.fact_2
+view c = quotient c.args.x c.requires.least c.requires.most
 
 pub float_to_bits-result : goal.float_to_bits-result
 float_to_bits-result c = (view c.before.before).number
@@ -23,4 +21,4 @@ pub returns : goal.returns
 unfolding exp_of
 returns c =
     let k = (view c.before.before).rounded (no (rw half-64 at c.if-y-k.false)) in
-    rw (under-max c.args.x c.requires.fact_1 c.requires.fact_2, over-min c.args.x c.requires.fact_1 c.requires.fact_2, (view c.before.before).power, c.exp_poly.ensures, k)
+    rw (under-max c.args.x c.requires.least c.requires.most, over-min c.args.x c.requires.least c.requires.most, (view c.before.before).power, c.exp_poly.ensures, k)

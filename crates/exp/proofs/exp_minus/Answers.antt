@@ -1,7 +1,5 @@
--- `exp::exp_minus` meets its contract. Assumes nothing.
 use mathlib.Core.Path.{ap, ◌∙◌}
 use lib.Ieee.{binary64, neg, mul, of_bits}
-use borrow.Author.Rules.{rules}
 use Rattle.ieee.proofs.Tests.{no, half-64}
 use Rattle.exp.specs.Exp.{inv_ln2, exp_of}
 use Rattle.exp.proofs.Above.{Sum, quotient, minus-under-max, minus-over-min, minus-rounded}
@@ -9,7 +7,7 @@ use Rattle.exp.proofs.exp_minus.Goals as goal
 use Rattle.exp.proofs.exp_minus.Goals.{Start}
 
 view : (c : Start) → Sum (of_bits binary64 0x4330_0000_0000_0000) (mul binary64 c.args.x inv_ln2)
-view c = quotient c.args.x c.requires.fact_1 c.requires.fact_2
+view c = quotient c.args.x c.requires.least c.requires.most
 
 pub float_to_bits-result : goal.float_to_bits-result
 float_to_bits-result c = (view c.before.before).number
@@ -23,5 +21,5 @@ float_from_bits-result c = (view c.before.before).minus_number
 pub returns : goal.returns
 unfolding exp_of
 returns c =
-    let k = ap neg ((view c.before.before).rounded (no (rw half-64 at c.if-y-h.false))) ∙ minus-rounded c.args.x c.requires.fact_1 c.requires.fact_2 in
-    rw (minus-under-max c.args.x c.requires.fact_1 c.requires.fact_2, minus-over-min c.args.x c.requires.fact_1 c.requires.fact_2, (view c.before.before).minus_power, c.exp_poly.ensures, k)
+    let k = ap neg ((view c.before.before).rounded (no (rw half-64 at c.if-y-h.false))) ∙ minus-rounded c.args.x c.requires.least c.requires.most in
+    rw (minus-under-max c.args.x c.requires.least c.requires.most, minus-over-min c.args.x c.requires.least c.requires.most, (view c.before.before).minus_power, c.exp_poly.ensures, k)

@@ -1,10 +1,8 @@
--- `exp::exp_plain` meets its contract. Assumes nothing.
 use mathlib.Core.Path.{◌≡◌, sym, ap, ◌∙◌, subst}
 use Prim.Native.Nat.{◌%◌}
 use lib.Ieee.{Float, binary64, mul}
 use lib.Ieee.Fits.{mul-fits}
 use lib.Ieee.Positive.{num, den}
-use borrow.Author.Rules.{rules}
 use Rattle.exp.specs.Exp.{inv_ln2, power_of_two, exp_of}
 use Rattle.double.proofs.Small.{rounded-whole}
 use Rattle.double.proofs.Tests.{one-by-zero, cast-read}

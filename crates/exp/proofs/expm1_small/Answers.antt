@@ -1,4 +1,3 @@
--- `exp::expm1_small` meets its contract: each constant is a quotient 1 / n!, and the rest is the code's own arithmetic. Assumes nothing.
 use mathlib.Core.Path.{◌≡◌, refl}
 use lib.Ieee.{binary64, div, of_bits, of_int}
 use Rattle.double.specs.Double.{horner}

@@ -1,15 +1,13 @@
--- `exp::ldexp2` meets its contract. Assumes nothing.
 use mathlib.Core.Path.{◌≡◌, ◌∙◌, subst}
 use mathlib.Core.Bool.{true, false}
 use Prim.Native.Nat.{◌*◌, ◌%◌, ◌^◌}
-use native.Mathlib.Nat.{lt_of_le_of_lt}
 use lib.Dec.{lit<}
 use lib.IntN.{ℤ, pos, negsuc}
 use lib.Signed.{lt_z}
 use mir.Syntax.{w64}
 use mir.ValLaws.{to_z-of_z}
 use Rattle.ieee.proofs.Tests.{zero-64}
-use Rattle.exp.proofs.Power.{above, under, Written, subnormal, normal, sum_fits, sum-unsigned, sum-small, sum_number, sum-gives}
+use Rattle.exp.proofs.Power.{above, under, Written, subnormal, normal, sum_number, sum-gives}
 use Rattle.double.proofs.Tests.{one-by-zero}
 use Rattle.exp.proofs.ldexp2.Goals as goal
 use Rattle.exp.proofs.ldexp2.Goals.{Else-k-ltminus1022, Else-k-ltminus1074}
@@ -35,29 +33,14 @@ pub returns-then-k-ltminus1074 : goal.returns-then-k-ltminus1074
 returns-then-k-ltminus1074 c =
     zero-64 ∙ under c.args.k (subst (λ (z : ℤ). lt_z z (negsuc 1073) ≡ true) (to_z-of_z w64 c.args.k c.ranges.k) c.if-k-ltminus1074.true)
 
-pub overflow_add-result : goal.overflow_add-result
-overflow_add-result c = sum_fits c.args.k c.ranges.k 1074 51 _ (low c) (lit< tt)
-
-pub overflow_cast-result : goal.overflow_cast-result
-overflow_cast-result c = sum-unsigned c.args.k c.ranges.k 1074 51 _ (low c) (lit< tt)
-
-pub overflow_shl-result : goal.overflow_shl-result
-overflow_shl-result c = lt_of_le_of_lt (sum-small c.args.k c.ranges.k 1074 51 _ (low c) (lit< tt)) (lit< tt)
-
 pub float_from_bits-result : goal.float_from_bits-result
 float_from_bits-result c = sum_number c.args.k c.ranges.k 1074 51 _ (low c) (lit< tt)
 
-pub returns-then-k-ltminus1022 : goal.returns-then-k-ltminus1022
-returns-then-k-ltminus1022 c = sum-gives c.args.k c.ranges.k 1074 51 _ (low c) (lit< tt)
+pub returns-else-k-ltminus1074 : goal.returns-else-k-ltminus1074
+returns-else-k-ltminus1074 c = sum-gives c.args.k c.ranges.k 1074 51 _ (low c) (lit< tt)
 
-pub overflow_add-result-2 : goal.overflow_add-result-2
-overflow_add-result-2 c = sum_fits c.args.k c.ranges.k 1023 2046 _ (high c) (lit< tt)
+pub float_from_bits-result-else-k-ltminus1022 : goal.float_from_bits-result-else-k-ltminus1022
+float_from_bits-result-else-k-ltminus1022 c = sum_number c.args.k c.ranges.k 1023 2046 _ (high c) (lit< tt)
 
-pub overflow_cast-result-2 : goal.overflow_cast-result-2
-overflow_cast-result-2 c = sum-unsigned c.args.k c.ranges.k 1023 2046 _ (high c) (lit< tt)
-
-pub float_from_bits-result-2 : goal.float_from_bits-result-2
-float_from_bits-result-2 c = sum_number c.args.k c.ranges.k 1023 2046 _ (high c) (lit< tt)
-
-pub returns : goal.returns
-returns c = sum-gives c.args.k c.ranges.k 1023 2046 _ (high c) (lit< tt)
+pub returns-else-k-ltminus1022 : goal.returns-else-k-ltminus1022
+returns-else-k-ltminus1022 c = sum-gives c.args.k c.ranges.k 1023 2046 _ (high c) (lit< tt)

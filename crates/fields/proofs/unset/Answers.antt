@@ -95,5 +95,5 @@ returns-then-m-gt6 c =
 
 pub returns : goal.returns
 returns c =
-    words c.args.r.now c.args.m _ _ c.if-m-gt6.false c.within.ensures c.within-2.ensures _ _ _ _
+    words c.args.r.now c.args.m _ _ c.if-m-gt6.false c.min.ensures c.min-2.ensures _ _ _ _
     c.pair.ensures c.pair-2.ensures c.pair-3.ensures c.pair-4.ensures

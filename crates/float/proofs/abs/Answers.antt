@@ -1,7 +1,6 @@
--- `float::abs` meets its contract. Assumes nothing.
-use mathlib.Core.Path.{◌≡◌, sym, subst}
+use mathlib.Core.Path.{sym, subst}
 use lib.Dec.{T}
-use lib.Ieee.{binary32, fits}
+use lib.Ieee.{binary32}
 use Rattle.ieee.proofs.Tests.{yes, no, zero-32}
 use Rattle.float.proofs.Order.{abs-above, abs-else}
 use Rattle.float.proofs.abs.Goals as goal

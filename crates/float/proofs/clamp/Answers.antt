@@ -1,5 +1,3 @@
--- `float::clamp` meets its contract. Assumes nothing.
-use mathlib.Core.Path.{◌≡◌, sym}
 use Rattle.float.specs.Order.{clamp_of}
 use Rattle.float.proofs.clamp.Goals as goal
 

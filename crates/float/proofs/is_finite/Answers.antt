@@ -1,7 +1,6 @@
--- `float::is_finite` meets its contract. Assumes nothing.
-use lib.Ieee.{binary32}
-use Rattle.float.proofs.Order.{finite-self}
+use Rattle.std.proofs.Common.{◌∙◌}
+use Rattle.float.proofs.Order.{finite-is}
 use Rattle.float.proofs.is_finite.Goals as goal
 
 pub returns : goal.returns
-returns c = finite-self binary32 c.args.x
+returns c = c.is_finite.ensures.value ∙ finite-is c.args.x

@@ -1,7 +1,5 @@
--- `float::max0` meets its contract. Assumes nothing.
-use mathlib.Core.Path.{◌≡◌, sym, subst, ◌∙◌}
+use mathlib.Core.Path.{sym, subst, ◌∙◌}
 use lib.Dec.{T}
-use lib.Ieee.{binary32, fits}
 use Rattle.ieee.proofs.Tests.{null, yes, no, zero-32}
 use Rattle.float.proofs.Order.{max-left, max-null}
 use Rattle.float.proofs.max0.Goals as goal

@@ -1,4 +1,3 @@
--- `float::rem` meets its contract. Assumes nothing.
 use Rattle.std.proofs.Common.{not, T, sym, ap, ◌∙◌, subst}
 use lib.Ieee.{Float, binary32, fits, neg, lt, rem}
 use Rattle.ieee.proofs.Tests.{null, yes, no, is_true, zero-32, zero-by-zero-32}
@@ -21,9 +20,9 @@ returns-then-x-2 c =
     ap neg (c.rem_above-then-x-2.ensures ∙ ap (λ (z : Float). rem binary32 (neg c.args.x) z) c.abs-z.ensures ∙ rem-abs binary32 (neg c.args.x) c.args.y)
     ∙ rem-neg binary32 c.args.x c.args.y (yes (rw zero-32 at c.if-x-2.true))
 
-pub returns-then-z : goal.returns-then-z
-returns-then-z c =
+pub returns-else-x-2 : goal.returns-else-x-2
+returns-else-x-2 c =
     rem-level binary32 c.args.x c.args.y (x-fits c.before.before.before.before) (no (rw zero-32 at c.if-x.false)) (no (rw zero-32 at c.if-x-2.false)) (subst (λ (z : Float). T (lt null z)) c.abs-z.ensures (yes (rw zero-32 at c.if-z.true)))
 
-pub returns : goal.returns
-returns c = zero-by-zero-32 ∙ rem-none binary32 c.args.x c.args.y (subst (λ (z : Float). T (not (lt null z))) c.abs-z.ensures (no (rw zero-32 at c.if-z.false)))
+pub returns-else-z : goal.returns-else-z
+returns-else-z c = zero-by-zero-32 ∙ rem-none binary32 c.args.x c.args.y (subst (λ (z : Float). T (not (lt null z))) c.abs-z.ensures (no (rw zero-32 at c.if-z.false)))

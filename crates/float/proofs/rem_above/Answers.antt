@@ -1,4 +1,3 @@
--- `float::rem_above` meets its contract. Assumes nothing.
 use Rattle.std.proofs.Common.{ℕ, ◌-◌, ◌*◌, ◌/◌, ◌%◌, ◌^◌, ◌<◌, ◌≤◌, false, T, sym, ◌∙◌, subst, lt_of_lt_of_le, mul-pos, lit≤, pow_pos}
 use lib.Ieee.{binary32, fits, to_bits, lt, round}
 use Rattle.ieee.proofs.Tests.{null, yes, zero-by-zero-32}
@@ -42,18 +41,18 @@ rem_units-requires c =
     let y = s.args.y in (
       subst (λ (z : ℕ). z < 2 ^ 24) (sym c.digits.ensures) (digits-lt (to_bits binary32 x)),
       subst (λ (z : ℕ). z ≤ 253) (sym c.power.ensures) (power-le (to_bits binary32 x) (view x (x-fits s) (x-above s)).0 c.if-a-eq255.false),
-      subst (λ (z : ℕ). 0 < z) (sym c.digits-2.ensures) (digits-some y (y-fits s) (y-above s) c.if-b-eq255.false),
-      subst (λ (z : ℕ). z < 2 ^ 24) (sym c.digits-2.ensures) (digits-lt (to_bits binary32 y)),
-      subst (λ (z : ℕ). z ≤ 253) (sym c.power-2.ensures) (power-le (to_bits binary32 y) (view y (y-fits s) (y-above s)).0 c.if-b-eq255.false),
+      subst (λ (z : ℕ). 0 < z) (sym c.digits-else-b-eq255.ensures) (digits-some y (y-fits s) (y-above s) c.if-b-eq255.false),
+      subst (λ (z : ℕ). z < 2 ^ 24) (sym c.digits-else-b-eq255.ensures) (digits-lt (to_bits binary32 y)),
+      subst (λ (z : ℕ). z ≤ 253) (sym c.power-else-b-eq255.ensures) (power-le (to_bits binary32 y) (view y (y-fits s) (y-above s)).0 c.if-b-eq255.false),
     )
 
-pub returns : goal.returns
-returns c =
+pub returns-else-b-eq255 : goal.returns-else-b-eq255
+returns-else-b-eq255 c =
     let s : Start = c.before.before.before.before.before.before.before in
     let x = s.args.x in
     let y = s.args.y in
     c.rem_units.ensures
-    ∙ (λ i. round binary32 false (c.digits.ensures i * 2 ^ c.power.ensures i % (c.digits-2.ensures i * 2 ^ c.power-2.ensures i)) (2 ^ 149))
+    ∙ (λ i. round binary32 false (c.digits.ensures i * 2 ^ c.power.ensures i % (c.digits-else-b-eq255.ensures i * 2 ^ c.power-else-b-eq255.ensures i)) (2 ^ 149))
     ∙ sym
     (rem-values binary32 x y false false (digits_of (to_bits binary32 x) * 2 ^ (to_bits binary32 x / 2 ^ 23 - 1)) (digits_of (to_bits binary32 y) * 2 ^ (to_bits binary32 y / 2 ^ 23 - 1)) (2 ^ 149) (pow_pos 149)
     (mul-pos (digits-some y (y-fits s) (y-above s) c.if-b-eq255.false) (pow_pos (to_bits binary32 y / 2 ^ 23 - 1)))

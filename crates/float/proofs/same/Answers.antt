@@ -1,9 +1,7 @@
--- `float::same` meets its contract. Assumes nothing.
 use mathlib.Core.Path.{sym, ap, ◌∙◌, subst}
 use lib.Dec.{T}
 use lib.Ieee.{binary32, of_bits}
 use lib.Ieee.Bits.{of_bits-to_bits}
-use borrow.Author.Rules.{rules}
 use borrow.Author.Tests.{eqb-true}
 use Rattle.float.proofs.same.Goals as goal
 

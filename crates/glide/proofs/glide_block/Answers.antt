@@ -1,4 +1,3 @@
--- `glide::glide_block` meets its contract. Assumes nothing.
 use mathlib.Core.Path.{sym, ap, ◌∙◌}
 use borrow.Author.Rules.{rules}
 use Rattle.control.specs.declared.Controls.{Controls}

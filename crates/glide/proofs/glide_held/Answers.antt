@@ -1,10 +1,8 @@
--- `glide::glide_held` meets its contract. Assumes nothing.
 use mathlib.Core.Path.{refl, sym, ap, ◌∙◌, subst}
 use mathlib.Core.List.{List}
 use Prim.Native.Nat.{ℕ}
 use lib.ListN.{length, length-map}
 use lib.Ieee.{Float}
-use borrow.Author.Rules.{rules}
 use Rattle.float.specs.Single.{◌⊗◌}
 use Rattle.control.specs.Moves.{moved}
 use Rattle.unit.specs.Block.{Pitched}

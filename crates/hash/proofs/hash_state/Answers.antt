@@ -1,8 +1,7 @@
--- `hash::hash_state` meets its contract. Assumes nothing.
-use Rattle.hash.specs.Hash.{hashed, state_of}
-use borrow.Author.Rules.{rules}
+use Rattle.std.proofs.Common.{◌≡◌, rules}
+use Rattle.hash.specs.Hash.{hashed, same, state_of}
 use Rattle.hash.proofs.hash_state.Goals as goal
 
 pub returns : goal.returns
 unfolding state_of hashed
-returns c = cc
+returns c = let regs : c.hash_all.result ≡ hashed same c.hash_floats.result c.args.regs.now = c.hash_all.ensures same (λ w r h. search rules) in cc

@@ -1,6 +1,4 @@
--- `ieee::from_units` meets its contract. Assumes nothing.
 use lib.Ieee.{binary32}
-use Rattle.std.proofs.Common.{rules}
 use Rattle.ieee.proofs.Build.{build, no-nan-bits}
 use Rattle.ieee.proofs.from_units.Goals as goal
 

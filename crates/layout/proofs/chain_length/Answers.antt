@@ -1,4 +1,3 @@
--- `layout::chain_length` meets its contract. What is counted and what is left make the whole; what is left falls. Assumes nothing.
 use mathlib.Core.Path.{◌≡◌}
 use Prim.Native.Nat.{◌+◌, ◌≤◌, ◌<◌}
 use native.Mathlib.Omega.{arith}
@@ -28,9 +27,3 @@ loop-j-preserved c =
 pub returns : goal.returns
 returns c =
     let e = walk-done c.args.sheet.now c.args.count c.requires.0 c.loop-j.j c.loop-j-test.false in (omega arith, omega arith)
-
-pub offset_bounds-nexts-j : goal.offset_bounds-nexts-j
-offset_bounds-nexts-j c = omega arith
-
-pub bounds-nexts-j : goal.bounds-nexts-j
-bounds-nexts-j c = omega arith

@@ -1,4 +1,3 @@
--- `layout::chain_length` meets its contract. What is counted and what is left make the whole; what is left falls. Assumes nothing.
 use mathlib.Core.Path.{◌≡◌}
 use Prim.Native.Nat.{◌+◌, ◌≤◌, ◌<◌}
 use native.Mathlib.Omega.{arith}

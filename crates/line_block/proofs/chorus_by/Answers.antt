@@ -1,12 +1,9 @@
--- `line_block::chorus_by` meets its contract. Assumes nothing.
-use mathlib.Core.Path.{◌≡◌, refl, ap, ◌∙◌}
-use Prim.Native.Nat.{ℕ, ◌-◌, ◌+◌, ◌<◌, ◌≤◌}
+use mathlib.Core.Path.{refl, ◌∙◌}
 use native.Mathlib.Nat.{le_refl}
 use native.Mathlib.Omega.{arith}
-use lib.ListN.{length, get_or, set, length-set}
+use lib.ListN.{get_or, set, length-set}
 use lib.Ieee.{Float, nan}
-use borrow.Author.Rules.{rules}
-use Rattle.block.specs.Loop.{Going, going_start, going-turn, going_end}
+use Rattle.block.specs.Loop.{going_start, going-turn, going_end}
 use Rattle.line_step.specs.declared.ChorusRead.{ChorusRead}
 use Rattle.line_step.specs.Line.{chorus_of}
 use Rattle.line_block.specs.Steps.{chorus_by_step}
@@ -24,7 +21,7 @@ loop-k-preserved c =
     let x = g.todo l.k (le_refl l.k) in
     let r = c.chorus_place-r.ensures.0 in
     let long = length-set l.line l.w (get_or l.out l.k nan) ∙ l.invariant.1 in
-    let mixed : Float → ChorusRead → Float = λ x r. chorus_of a.mix r.frac x (get_or (set l.line l.w x) r.i0 nan) (get_or (set l.line l.w x) r.i1 nan) in (
+    let mixed : Float → ChorusRead → Float = λ x r. chorus_of a.c.mix r.frac x (get_or (set l.line l.w x) r.i0 nan) (get_or (set l.line l.w x) r.i1 nan) in (
       going-turn nan _ _ _ g (omega arith) (c.chorus.ensures ∙ (λ i. mixed (x i) (r i))) (λ i. (set l.line l.w (x i), c.next_place-w.ensures.0 i)),
       long,
       omega (arith, long, c.next_place-w.ensures.1),

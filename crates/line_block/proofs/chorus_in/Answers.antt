@@ -1,11 +1,9 @@
--- `line_block::chorus_in` meets its contract. Assumes nothing.
 use mathlib.Core.Path.{◌≡◌, ap, ◌∙◌}
 use mathlib.Core.List.{List}
 use Prim.Native.Nat.{ℕ, ◌≤◌, ◌<◌}
 use native.Mathlib.Omega.{arith}
 use lib.ListN.{length}
 use lib.Ieee.{Float, nan}
-use borrow.Author.Rules.{rules}
 use Rattle.block.specs.Iterate.{at, given, given-at, given-same, after_same}
 use Rattle.line_step.specs.Line.{chorus_place, chorus_read}
 use Rattle.proc_block.specs.Steps.{lfo_step}
@@ -24,5 +22,5 @@ pub returns : goal.returns
 returns c =
     let a = c.args in
     let e = c.chorus_by.ensures in
-    let same = step_is a.out.now a.base a.swing a.rate a.srf a.mix (length a.line.now) a.t _ (omega (arith, c.requires.2)) c.lfo_block.ensures in
+    let same = step_is a.out.now a.c.base a.c.swing a.c.rate a.srf a.c.mix (length a.line.now) a.t _ (omega (arith, c.requires.2)) c.lfo_block.ensures in
     (e.0 ∙ given-same _ _ _ _ same, e.1 ∙ after_same _ _ _ _ same, e.2)

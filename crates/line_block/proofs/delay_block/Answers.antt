@@ -1,12 +1,10 @@
--- `line_block::delay_block` meets its contract. Assumes nothing.
-use mathlib.Core.Path.{◌≡◌, refl, ap, ◌∙◌}
-use Prim.Native.Nat.{ℕ, ◌-◌, ◌+◌, ◌%◌, ◌<◌, ◌≤◌}
+use mathlib.Core.Path.{refl, ap, ◌∙◌}
+use Prim.Native.Nat.{ℕ, ◌+◌, ◌%◌}
 use native.Mathlib.Nat.{le_refl}
 use native.Mathlib.Omega.{arith}
-use lib.ListN.{length, get_or, set, length-set}
+use lib.ListN.{get_or, set, length-set}
 use lib.Ieee.{Float, nan}
-use borrow.Author.Rules.{rules}
-use Rattle.block.specs.Loop.{Going, going_start, going-turn, going_end}
+use Rattle.block.specs.Loop.{going_start, going-turn, going_end}
 use Rattle.line_step.specs.Line.{delay_of}
 use Rattle.line_block.specs.Steps.{delay_step}
 use Rattle.line_block.proofs.delay_block.Goals as goal

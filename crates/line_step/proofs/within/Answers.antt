@@ -1,7 +1,6 @@
 -- `line_step::within` meets its contract. Assumes nothing.
 use mathlib.Core.Path.{refl, sym}
 use native.Mathlib.Nat.{mod-lt, mod-eq_of_lt}
-use borrow.Author.Rules.{rules}
 use Rattle.line_step.proofs.within.Goals as goal
 
 pub returns-then-i-len : goal.returns-then-i-len

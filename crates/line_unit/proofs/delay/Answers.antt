@@ -1,6 +1,4 @@
--- `line_unit::delay` meets its contract. Assumes nothing.
 use Rattle.line_unit.specs.Runs.{delay-ran}
-use borrow.Author.Rules.{rules}
 use Rattle.line_unit.proofs.delay.Goals as goal
 
 pub returns : goal.returns

@@ -1,12 +1,10 @@
--- `line_unit::reverb` meets its contract. Assumes nothing.
-use borrow.Author.Rules.{rules}
 use Rattle.line_unit.proofs.reverb.Goals as goal
 
 pub reverb_lines-requires : goal.reverb_lines-requires
 reverb_lines-requires c =
-    let l = c.reverb_lens_apart in
+    let l = c.reverb_lens_apart-lens in
     (c.requires.0, rw l.ensures.0 c.requires.3, rw l.ensures.0 c.requires.2)
 
 pub returns : goal.returns
 returns c =
-    λ ctl. c.reverb_lines.ensures ctl c.args.sr c.reverb_lens_apart.ensures.0
+    λ ctl. c.reverb_lines.ensures ctl c.args.sr c.reverb_lens_apart-lens.ensures.0

@@ -1,6 +1,4 @@
--- `line_unit::reverb_lines` meets its contract. Assumes nothing.
 use Rattle.line_unit.specs.Runs.{reverb-ran}
-use borrow.Author.Rules.{rules}
 use Rattle.line_unit.proofs.reverb_lines.Goals as goal
 
 pub returns : goal.returns

@@ -1,5 +1,4 @@
 -- `lines::chorus_base` meets its contract. Assumes nothing.
-use borrow.Author.Rules.{rules}
 use Rattle.lines.specs.Lines.{chorus_base}
 use Rattle.lines.proofs.chorus_base.Goals as goal
 

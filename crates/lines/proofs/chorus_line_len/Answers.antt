@@ -3,7 +3,6 @@ use mathlib.Core.Path.{◌≡◌}
 use Prim.Native.Nat.{◌+◌}
 use native.Mathlib.Omega.{arith}
 use lib.Ieee.{binary32, add, to_unsigned}
-use borrow.Author.Rules.{rules}
 use Rattle.lines.specs.Lines.{chorus_base, chorus_swing, chorus_line}
 use Rattle.lines.proofs.Lengths.{chorus-sum-le, chorus-ge, chorus-le, within}
 use Rattle.lines.proofs.chorus_line_len.Goals as goal

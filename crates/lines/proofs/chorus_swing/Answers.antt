@@ -1,5 +1,4 @@
 -- `lines::chorus_swing` meets its contract. Assumes nothing.
-use borrow.Author.Rules.{rules}
 use Rattle.lines.specs.Lines.{chorus_swing}
 use Rattle.lines.proofs.chorus_swing.Goals as goal
 

@@ -1,6 +1,5 @@
 -- `lines::delay_line_len` meets its contract. Assumes nothing.
 use mathlib.Core.Path.{◌≡◌}
-use borrow.Author.Rules.{rules}
 use Rattle.lines.specs.Lines.{delay_line}
 use Rattle.lines.proofs.Lengths.{delay-ge, delay-le, within}
 use Rattle.lines.proofs.delay_line_len.Goals as goal

@@ -1,5 +1,4 @@
 -- `lines::tuned_apart` meets its contract. Assumes nothing.
-use borrow.Author.Rules.{rules}
 use Rattle.lines.specs.Lines.{tuned_line}
 use Rattle.lines.proofs.tuned_apart.Goals as goal
 

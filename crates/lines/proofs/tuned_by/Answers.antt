@@ -11,7 +11,7 @@ came : (c : Joined-y) → Raised (mul binary32 c.args.t c.args.scale) c.if-y.sma
 came c = elim c.if-y.branch [ then-y w ↦ inl (w.if-y.true, w.small_to_u64-is) | else-y w ↦ inr (w.if-y.false, w.small_to_u64-is) ]
 
 pub small_to_u64-requires : goal.small_to_u64-requires
-small_to_u64-requires c = let r = raised _ c.if-y.small_to_u64 (came c) c.requires in record { fact_1 = r.0; fact_2 = r.1 }
+small_to_u64-requires c = let r = raised _ c.if-y.small_to_u64 (came c) c.requires in record { least = r.0; most = r.1 }
 
 pub returns : goal.returns
 unfolding tuned_line

@@ -1,12 +1,8 @@
--- `mixer::join` meets its contract. Assumes nothing.
-use Prim.Native.Nat.{◌-◌}
 use borrow.Author.Tests.{eq-eqb, ne_eqb}
 use Rattle.mixer.proofs.join.Goals as goal
 
--- src/lib.rt:22:1
 pub returns-then-kind-eq12 : goal.returns-then-kind-eq12
 returns-then-kind-eq12 c = rw (eq-eqb _ _ c.if-kind-eq12.true)
 
--- src/lib.rt:22:1
 pub returns-else-kind-eq12 : goal.returns-else-kind-eq12
 returns-else-kind-eq12 c = rw (ne_eqb _ _ c.if-kind-eq12.false)

@@ -1,11 +1,8 @@
--- `mixer::scratch_fill` meets its contract. Assumes nothing.
 use mathlib.Core.Path.{◌≡◌}
 use Prim.Native.Nat.{◌-◌, ◌+◌}
 use native.Mathlib.Omega.{arith}
-use borrow.Author.Rules.{rules}
 use Rattle.mixer.proofs.scratch_fill.Goals as goal
 
--- src/lib.rt:57:1
 pub returns : goal.returns
 returns c =
     let n = c.args.n in

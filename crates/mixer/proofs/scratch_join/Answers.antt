@@ -1,12 +1,9 @@
--- `mixer::scratch_join` meets its contract. Assumes nothing.
 use mathlib.Core.Path.{◌≡◌}
 use Prim.Native.Nat.{◌-◌, ◌+◌}
 use native.Mathlib.Omega.{arith}
 use lib.ListN.{length}
-use borrow.Author.Rules.{rules}
 use Rattle.mixer.proofs.scratch_join.Goals as goal
 
--- src/lib.rt:65:1
 pub returns : goal.returns
 returns c =
     let n = length c.args.x.now in

@@ -1,19 +1,11 @@
--- `modal_block::modes` meets its contract. Assumes nothing.
-use mathlib.Core.Path.{◌≡◌, refl, ap, ◌∙◌}
-use Prim.Native.Nat.{◌-◌, ◌*◌, ◌+◌, ◌≤◌, ◌<◌}
-use native.Mathlib.Omega.{arith}
-use lib.ListN.{length}
-use borrow.Author.Rules.{rules}
-use Rattle.float.specs.Single.{◌⊕◌}
-use Rattle.proc.specs.declared.Mode.{Mode}
-use Rattle.proc.specs.Effects.{mode_of}
-use Rattle.block.specs.Bank.{units, units-turn}
-use Rattle.modal_block.specs.Modal as bank
-use Rattle.modal_block.specs.Modal.{put_mode, mode_step}
+use Rattle.std.proofs.Common.{◌≡◌, length}
+use Rattle.std.specs.Float.{nan}
+use Rattle.block.specs.Loop.{Going}
+use Rattle.modal_block.specs.Modes.{sums, so_far, mode_turn}
 use Rattle.modal_block.proofs.modes.Given as goal
 
 abbrev pub invariant-loop-k : goal.invariant-loop-k
-invariant-loop-k l = ((l.wet, l.cells) ≡ bank.modes l.x l.initial.cells l.k) × (length l.cells ≡ length l.initial.cells) × (l.k ≤ l.n)
+invariant-loop-k g l = (l.wet ≡ sums (so_far l.x l.initial.cells l.k).0) × (l.cells ≡ (so_far l.x l.initial.cells l.k).1) × (length l.cells ≡ length l.initial.cells)
 
-abbrev pub decreases-loop-k : goal.decreases-loop-k
-decreases-loop-k l = l.n - l.k
+abbrev pub invariant-loop-j : goal.invariant-loop-j
+invariant-loop-j g l = Going nan (mode_turn l.x l.initial.wet) l.initial.mode l.initial.wet l.j l.wet l.mode

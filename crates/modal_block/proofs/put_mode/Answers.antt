@@ -1,8 +1,4 @@
--- `modal_block::put_mode` meets its contract. Assumes nothing.
-use mathlib.Core.Path.{refl}
-use native.Mathlib.Omega.{arith}
-use lib.ListN.{length-set}
-use borrow.Author.Rules.{rules}
+use Rattle.std.proofs.Common.{refl, length-set, arith}
 use Rattle.modal_block.specs.Modal.{put_mode}
 use Rattle.modal_block.proofs.put_mode.Goals as goal
 

@@ -4,7 +4,6 @@ use native.Mathlib.Omega.{arith}
 use Rattle.sheet.specs.Laws.{rest}
 use Rattle.layout.specs.Tables.{first-low}
 use Rattle.layout.specs.Counts.{cells-made, modal-made}
-use borrow.Author.Rules.{rules}
 use Rattle.offsets.proofs.cells_at.Goals as goal
 
 pub chain_length-requires : goal.chain_length-requires

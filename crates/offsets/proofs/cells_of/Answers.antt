@@ -3,7 +3,6 @@ use mathlib.Core.Path.{sym}
 use native.Mathlib.Omega.{arith}
 use Rattle.layout.specs.Needs.{need_of}
 use Rattle.layout.specs.Counts.{cells-other}
-use borrow.Author.Rules.{rules}
 use Rattle.offsets.proofs.cells_of.Goals as goal
 
 pub returns-in-6 : goal.returns-in-6

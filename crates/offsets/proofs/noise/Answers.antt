@@ -2,7 +2,6 @@
 use mathlib.Core.Path.{sym}
 use native.Mathlib.Omega.{arith}
 use Rattle.layout.specs.Counts.{noise-other}
-use borrow.Author.Rules.{rules}
 use Rattle.offsets.proofs.noise.Goals as goal
 
 pub returns-else-colour-eq1 : goal.returns-else-colour-eq1

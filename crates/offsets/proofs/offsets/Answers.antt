@@ -1,15 +1,11 @@
--- `offsets::offsets` meets its contract. The loop keeps the sums below i, and for each record at most 5,760,000 cells, 11 registers and 256 scratch. Assumes nothing.
 use mathlib.Core.Path.{◌≡◌, refl, sym, ap, ◌∙◌}
-use mathlib.Core.Logic.{⊎_elim}
-use Prim.Native.Nat.{◌+◌, ◌-◌, ◌*◌, ◌≤◌}
+use Prim.Native.Nat.{◌+◌, ◌≤◌}
 use native.Mathlib.Omega.{arith}
 use borrow.Author.Count.{below_none}
-use lib.ListN.{length, length-set}
+use lib.ListN.{length-set}
 use Rattle.sheet.specs.Checks.{sum}
-use Rattle.layout.specs.Needs.{cells, registers, scratch, cells_from, registers_from, scratch_from}
-use Rattle.layout.specs.Tables.{Below}
+use Rattle.layout.specs.Needs.{cells, registers, scratch}
 use Rattle.layout.specs.Counts.{sums-turn, sums-done, cells-some, registers-some, scratch-some}
-use borrow.Author.Rules.{rules}
 use Rattle.offsets.proofs.offsets.Goals as goal
 use Rattle.offsets.proofs.offsets.Goals.{then-owns, else-owns}
 
@@ -65,9 +61,11 @@ pub returns : goal.returns
 returns c =
     let l = c.loop-i in
     let sheet = c.args.sheet.now in
-    let wc = sums-done (cells sheet) l.places c.args.count l.i l.c (omega arith) (omega arith) (omega arith) l.invariant.10 l.invariant.7 in
-    let wr = sums-done (registers sheet) l.words c.args.count l.i l.r (omega arith) (omega arith) (omega arith) l.invariant.11 l.invariant.8 in
-    let ws = sums-done (scratch sheet) l.blocks c.args.count l.i l.s (omega arith) (omega arith) (omega arith) l.invariant.12 l.invariant.9 in
+    let n = c.args.count in
+    let e : l.i ≡ n = omega arith in
+    let wc = sums-done (cells sheet) l.places n n l.c (omega arith) (omega arith) (omega arith) (rw e at l.invariant.10) (rw e at l.invariant.7) in
+    let wr = sums-done (registers sheet) l.words n n l.r (omega arith) (omega arith) (omega arith) (rw e at l.invariant.11) (rw e at l.invariant.8) in
+    let ws = sums-done (scratch sheet) l.blocks n n l.s (omega arith) (omega arith) (omega arith) (rw e at l.invariant.12) (rw e at l.invariant.9) in
     record {
       cells_at = wc.0;
       registers_at = wr.0;
@@ -79,66 +77,3 @@ returns c =
       registers_most = omega (arith, c.requires.0.small);
       scratch_most = omega (arith, c.requires.0.small);
     }
-
-pub offset_bounds-places-i : goal.offset_bounds-places-i
-offset_bounds-places-i c = omega arith
-
-pub bounds-places-i : goal.bounds-places-i
-bounds-places-i c = omega arith
-
-pub offset_bounds-words-i : goal.offset_bounds-words-i
-offset_bounds-words-i c = omega arith
-
-pub bounds-words-i : goal.bounds-words-i
-bounds-words-i c = omega arith
-
-pub offset_bounds-blocks-i : goal.offset_bounds-blocks-i
-offset_bounds-blocks-i c = omega arith
-
-pub bounds-blocks-i : goal.bounds-blocks-i
-bounds-blocks-i c = omega arith
-
-pub bounds-kinds-i : goal.bounds-kinds-i
-bounds-kinds-i c = omega arith
-
-pub bounds-acts-i : goal.bounds-acts-i
-bounds-acts-i c = omega arith
-
-pub offset_bounds-firsts-i : goal.offset_bounds-firsts-i
-offset_bounds-firsts-i c = omega arith
-
-pub bounds-firsts-i : goal.bounds-firsts-i
-bounds-firsts-i c = omega arith
-
-pub overflow_add-c : goal.overflow_add-c
-overflow_add-c c = omega arith
-
-pub overflow_add-r : goal.overflow_add-r
-overflow_add-r c = omega arith
-
-pub overflow_add-s : goal.overflow_add-s
-overflow_add-s c = omega arith
-
-pub overflow_add-i : goal.overflow_add-i
-overflow_add-i c = omega arith
-
-pub loop-i-smaller : goal.loop-i-smaller
-loop-i-smaller c = omega arith
-
-pub offset_bounds-places-i-2 : goal.offset_bounds-places-i-2
-offset_bounds-places-i-2 c = omega arith
-
-pub bounds-places-i-2 : goal.bounds-places-i-2
-bounds-places-i-2 c = omega arith
-
-pub offset_bounds-words-i-2 : goal.offset_bounds-words-i-2
-offset_bounds-words-i-2 c = omega arith
-
-pub bounds-words-i-2 : goal.bounds-words-i-2
-bounds-words-i-2 c = omega arith
-
-pub offset_bounds-blocks-i-2 : goal.offset_bounds-blocks-i-2
-offset_bounds-blocks-i-2 c = omega arith
-
-pub bounds-blocks-i-2 : goal.bounds-blocks-i-2
-bounds-blocks-i-2 c = omega arith

@@ -2,7 +2,6 @@
 use mathlib.Core.Path.{sym}
 use mathlib.Core.Bool.{true≢false}
 use Rattle.layout.specs.Counts.{none-unbuilt, none_bare}
-use borrow.Author.Rules.{rules}
 use Rattle.offsets.proofs.owns.Goals as goal
 
 pub returns-then-bare : goal.returns-then-bare

@@ -7,7 +7,6 @@ use lib.ListN.{get_or}
 use Rattle.lines.specs.Lines.{comb_line, allpass_line, reverb_lines}
 use Rattle.sheet.specs.Checks.{sum}
 use Rattle.layout.specs.Needs.{reverb_cells}
-use borrow.Author.Rules.{rules}
 use Rattle.offsets.proofs.reverb.Goals as goal
 
 -- the lengths and the stores, as the code adds them
@@ -20,34 +19,34 @@ unfolding sum
 total l sr e a b = (rw e (omega arith), rw e (omega (arith, a 0, a 1, a 2, a 3, a 4, a 5, b 0, b 1, b 2, b 3)))
 
 pub returns : goal.returns
-returns c = let e = c.reverb_lens.ensures in total _ _ e.0 e.1 e.2
+returns c = let e = c.reverb_lens-lens.ensures in total _ _ e.0 e.1 e.2
 
 pub overflow_add-combs : goal.overflow_add-combs
-overflow_add-combs c = omega (arith, (total _ _ c.reverb_lens.ensures.0 c.reverb_lens.ensures.1 c.reverb_lens.ensures.2).1)
+overflow_add-combs c = omega (arith, (total _ _ c.reverb_lens-lens.ensures.0 c.reverb_lens-lens.ensures.1 c.reverb_lens-lens.ensures.2).1)
 
 pub overflow_add-combs-2 : goal.overflow_add-combs-2
-overflow_add-combs-2 c = omega (arith, (total _ _ c.reverb_lens.ensures.0 c.reverb_lens.ensures.1 c.reverb_lens.ensures.2).1)
+overflow_add-combs-2 c = omega (arith, (total _ _ c.reverb_lens-lens.ensures.0 c.reverb_lens-lens.ensures.1 c.reverb_lens-lens.ensures.2).1)
 
 pub overflow_add-combs-3 : goal.overflow_add-combs-3
-overflow_add-combs-3 c = omega (arith, (total _ _ c.reverb_lens.ensures.0 c.reverb_lens.ensures.1 c.reverb_lens.ensures.2).1)
+overflow_add-combs-3 c = omega (arith, (total _ _ c.reverb_lens-lens.ensures.0 c.reverb_lens-lens.ensures.1 c.reverb_lens-lens.ensures.2).1)
 
 pub overflow_add-combs-4 : goal.overflow_add-combs-4
-overflow_add-combs-4 c = omega (arith, (total _ _ c.reverb_lens.ensures.0 c.reverb_lens.ensures.1 c.reverb_lens.ensures.2).1)
+overflow_add-combs-4 c = omega (arith, (total _ _ c.reverb_lens-lens.ensures.0 c.reverb_lens-lens.ensures.1 c.reverb_lens-lens.ensures.2).1)
 
 pub overflow_add-combs-5 : goal.overflow_add-combs-5
-overflow_add-combs-5 c = omega (arith, (total _ _ c.reverb_lens.ensures.0 c.reverb_lens.ensures.1 c.reverb_lens.ensures.2).1)
+overflow_add-combs-5 c = omega (arith, (total _ _ c.reverb_lens-lens.ensures.0 c.reverb_lens-lens.ensures.1 c.reverb_lens-lens.ensures.2).1)
 
 pub overflow_add-result : goal.overflow_add-result
-overflow_add-result c = omega (arith, (total _ _ c.reverb_lens.ensures.0 c.reverb_lens.ensures.1 c.reverb_lens.ensures.2).1)
+overflow_add-result c = omega (arith, (total _ _ c.reverb_lens-lens.ensures.0 c.reverb_lens-lens.ensures.1 c.reverb_lens-lens.ensures.2).1)
 
 pub overflow_add-result-2 : goal.overflow_add-result-2
-overflow_add-result-2 c = omega (arith, (total _ _ c.reverb_lens.ensures.0 c.reverb_lens.ensures.1 c.reverb_lens.ensures.2).1)
+overflow_add-result-2 c = omega (arith, (total _ _ c.reverb_lens-lens.ensures.0 c.reverb_lens-lens.ensures.1 c.reverb_lens-lens.ensures.2).1)
 
 pub overflow_add-result-3 : goal.overflow_add-result-3
-overflow_add-result-3 c = omega (arith, (total _ _ c.reverb_lens.ensures.0 c.reverb_lens.ensures.1 c.reverb_lens.ensures.2).1)
+overflow_add-result-3 c = omega (arith, (total _ _ c.reverb_lens-lens.ensures.0 c.reverb_lens-lens.ensures.1 c.reverb_lens-lens.ensures.2).1)
 
 pub overflow_add-result-4 : goal.overflow_add-result-4
-overflow_add-result-4 c = omega (arith, (total _ _ c.reverb_lens.ensures.0 c.reverb_lens.ensures.1 c.reverb_lens.ensures.2).1)
+overflow_add-result-4 c = omega (arith, (total _ _ c.reverb_lens-lens.ensures.0 c.reverb_lens-lens.ensures.1 c.reverb_lens-lens.ensures.2).1)
 
 pub overflow_add-result-5 : goal.overflow_add-result-5
-overflow_add-result-5 c = omega (arith, (total _ _ c.reverb_lens.ensures.0 c.reverb_lens.ensures.1 c.reverb_lens.ensures.2).1)
+overflow_add-result-5 c = omega (arith, (total _ _ c.reverb_lens-lens.ensures.0 c.reverb_lens-lens.ensures.1 c.reverb_lens-lens.ensures.2).1)

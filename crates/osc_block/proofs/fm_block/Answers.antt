@@ -1,16 +1,15 @@
--- `osc_block::fm_block` meets its contract. Assumes nothing.
-use mathlib.Core.Path.{ap, ◌∙◌}
-use mathlib.Core.List.{map}
+use Rattle.std.proofs.Common.{ap, ◌∙◌, map, rules}
 use Rattle.dsp.specs.Math.{sine}
-use borrow.Author.Rules.{rules}
+use Rattle.osc_block.specs.Steps.{modulator_step, carrier_step}
 use Rattle.osc_block.proofs.Passes.{after-fm, given-fm}
 use Rattle.osc_block.proofs.fm_block.Goals as goal
 
 pub returns : goal.returns
+unfolding modulator_step carrier_step
 returns c =
-    let xs = c.fm_carriers-c.ensures in
-    let m = c.fm_modulators-m.ensures in
+    let m = c.run_block-mph.ensures (modulator_step c.args.w c.args.ratio) (λ k s r h p. search rules) in
+    let x = c.run_block-cph.ensures (carrier_step _ c.args.w c.args.index.now) (λ k s r h p. search rules) in
     let ms = c.sin_block.ensures ∙ ap (map sine) m.0 in (
-      c.sin_block-2.ensures ∙ ap (map sine) xs.0 ∙ given-fm _ _ _ _ _ _ _ _ ms,
-      (λ i. record { cph = xs.1 i; mph = m.1 i }) ∙ after-fm _ _ _ _ _ _ _ _ ms,
+      c.sin_block-2.ensures ∙ ap (map sine) x.0 ∙ given-fm _ _ _ _ _ _ ms,
+      (λ i. record { cph = x.1 i; mph = m.1 i }) ∙ after-fm _ _ _ _ _ _ ms,
     )

@@ -1,23 +1,7 @@
--- `osc_block::square_block` meets its contract. Assumes nothing.
-use mathlib.Core.Path.{ap}
-use Prim.Native.Nat.{◌-◌}
-use native.Mathlib.Omega.{arith}
-use lib.ListN.{length}
-use lib.Ieee.{nan}
-use Rattle.block.specs.Loop.{Going, going_start, going-turn, going_end}
-use Rattle.source.specs.declared.Phased.{Phased}
+use Rattle.std.proofs.Common.{rules}
 use Rattle.osc_block.specs.Steps.{square_step}
-use borrow.Author.Rules.{rules}
 use Rattle.osc_block.proofs.square_block.Goals as goal
 
-pub loop-k-init : goal.loop-k-init
-loop-k-init c = going_start nan _ _ _
-
-pub loop-k-preserved : goal.loop-k-preserved
-unfolding square_step
-loop-k-preserved c =
-    let l = c.loop-k in
-    going-turn nan _ _ _ l.invariant (omega arith) (ap (λ (r : Phased). r.out) c.square-s.ensures) (ap (λ (r : Phased). r.phase) c.square-s.ensures)
-
 pub returns : goal.returns
-returns c = going_end nan _ _ _ c.loop-k.invariant (omega arith)
+unfolding square_step
+returns c = c.run_block.ensures (square_step c.args.w _) (λ k s r h p. search rules)

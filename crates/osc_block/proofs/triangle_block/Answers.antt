@@ -1,23 +1,7 @@
--- `osc_block::triangle_block` meets its contract. Assumes nothing.
-use mathlib.Core.Path.{ap}
-use Prim.Native.Nat.{◌-◌}
-use native.Mathlib.Omega.{arith}
-use lib.ListN.{length}
-use lib.Ieee.{nan}
-use Rattle.block.specs.Loop.{Going, going_start, going-turn, going_end}
-use Rattle.source.specs.declared.TriangleOut.{TriangleOut}
-use Rattle.osc_block.specs.Steps.{triangle_step, triangle_next}
-use borrow.Author.Rules.{rules}
+use Rattle.std.proofs.Common.{rules}
+use Rattle.osc_block.specs.Steps.{triangle_step}
 use Rattle.osc_block.proofs.triangle_block.Goals as goal
 
-pub loop-k-init : goal.loop-k-init
-loop-k-init c = going_start nan _ _ _
-
-pub loop-k-preserved : goal.loop-k-preserved
-unfolding triangle_step
-loop-k-preserved c =
-    let l = c.loop-k in
-    going-turn nan _ _ _ l.invariant (omega arith) (ap (λ (r : TriangleOut). r.out) c.triangle-s.ensures) (ap triangle_next c.triangle-s.ensures)
-
 pub returns : goal.returns
-returns c = going_end nan _ _ _ c.loop-k.invariant (omega arith)
+unfolding triangle_step
+returns c = c.run_block.ensures (triangle_step c.args.w) (λ k s r h p. search rules)

@@ -1,13 +1,10 @@
--- `paths::down` meets its contract. The loop keeps the paths below j; an owner stands below its record. Assumes nothing.
-use mathlib.Core.Path.{◌≡◌, refl}
-use Prim.Native.Nat.{◌-◌, ◌≤◌, ◌<◌}
+use mathlib.Core.Path.{refl}
 use native.Mathlib.Omega.{arith}
 use borrow.Author.Count.{below_none}
-use lib.ListN.{length, length-set}
+use lib.ListN.{length-set}
 use Rattle.unit.specs.Start.{path}
-use Rattle.layout.specs.Tables.{Below, front-done, front-more, owner-entry}
+use Rattle.layout.specs.Tables.{front-done, front-more, owner-entry}
 use Rattle.paths.specs.Paths.{root_is, paths-turn}
-use borrow.Author.Rules.{rules}
 use Rattle.paths.proofs.down.Goals as goal
 
 pub loop-j-init : goal.loop-j-init
@@ -34,30 +31,3 @@ pub returns : goal.returns
 returns c =
     let l = c.loop-j in
     front-done _ _ _ l.j (omega arith) (omega arith) l.invariant.4
-
-pub bounds-to-0 : goal.bounds-to-0
-bounds-to-0 c = omega arith
-
-pub offset_bounds-owned-j : goal.offset_bounds-owned-j
-offset_bounds-owned-j c = omega arith
-
-pub bounds-owned-j : goal.bounds-owned-j
-bounds-owned-j c = omega arith
-
-pub offset_bounds-placed-j : goal.offset_bounds-placed-j
-offset_bounds-placed-j c = omega arith
-
-pub bounds-placed-j : goal.bounds-placed-j
-bounds-placed-j c = omega arith
-
-pub offset_bounds-to-j : goal.offset_bounds-to-j
-offset_bounds-to-j c = omega arith
-
-pub bounds-to-j : goal.bounds-to-j
-bounds-to-j c = omega arith
-
-pub overflow_add-j : goal.overflow_add-j
-overflow_add-j c = omega arith
-
-pub loop-j-smaller : goal.loop-j-smaller
-loop-j-smaller c = omega arith

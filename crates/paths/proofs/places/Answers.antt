@@ -1,11 +1,9 @@
--- `paths::places` meets its contract. The loop keeps the place of every record that a link below i leads to; entry 0 is set at the end. Assumes nothing.
-use mathlib.Core.Path.{◌≡◌, refl}
-use Prim.Native.Nat.{◌-◌, ◌≤◌}
+use mathlib.Core.Path.{refl}
 use native.Mathlib.Omega.{arith}
-use lib.ListN.{length, length-set, get_or}
+use lib.ListN.{length-set}
 use lib.Seq.{get_or-set_same}
 use Rattle.layout.specs.Tables.{first_entry, next-entry}
-use Rattle.paths.specs.Paths.{Placing, entry-small, places-turn, places-done}
+use Rattle.paths.specs.Paths.{entry-small, places-turn, places-done}
 use Rattle.paths.proofs.places.Goals as goal
 
 pub loop-i-init : goal.loop-i-init
@@ -48,30 +46,3 @@ pub returns : goal.returns
 returns c =
     let l = c.loop-i in
     places-done c.args.sheet.now c.args.count c.requires.0 l.i l.to (omega arith) l.invariant.2 l.invariant.4
-
-pub bounds-to-0 : goal.bounds-to-0
-bounds-to-0 c = omega arith
-
-pub offset_bounds-firsts-i : goal.offset_bounds-firsts-i
-offset_bounds-firsts-i c = omega arith
-
-pub bounds-firsts-i : goal.bounds-firsts-i
-bounds-firsts-i c = omega arith
-
-pub offset_bounds-to-i : goal.offset_bounds-to-i
-offset_bounds-to-i c = omega arith
-
-pub offset_bounds-nexts-i : goal.offset_bounds-nexts-i
-offset_bounds-nexts-i c = omega arith
-
-pub bounds-nexts-i : goal.bounds-nexts-i
-bounds-nexts-i c = omega arith
-
-pub overflow_add-i : goal.overflow_add-i
-overflow_add-i c = omega arith
-
-pub loop-i-smaller : goal.loop-i-smaller
-loop-i-smaller c = omega arith
-
-pub bounds-to-0-2 : goal.bounds-to-0-2
-bounds-to-0-2 c = omega arith

@@ -1,28 +1,34 @@
--- `performance::one_call` meets its contract. Assumes nothing.
-use mathlib.Core.Path.{◌≡◌, ◌∙◌}
-use Prim.Native.Nat.{◌-◌, ◌+◌, ◌≤◌, ◌<◌}
-use borrow.Author.Tests.{eq-eqb, ne_eqb}
+use Rattle.std.specs.Prelude.{◌≡◌, ℕ}
+use Rattle.std.proofs.Common.{sym, subst, ◌∙◌}
+use Rattle.std.proofs.lemmas.Result.{err_from_is_err_and}
 use Rattle.control.specs.Moves.{pitch_moved, bend_moved}
-use Rattle.performance.specs.List.{call_of, called-fill, called-controls, call-pitch, call-bend, called-cutoff}
-use borrow.Author.Rules.{rules}
+use Rattle.refusal.specs.Refusal.{answer-ok, passed-on}
+use Rattle.machine.specs.Machine.{cutoff}
+use Rattle.calls.specs.Calls.{controls-err}
+use Rattle.performance.specs.List.{Called, called-fill, called-controls, call-pitch, call-bend, called-cutoff}
 use Rattle.performance.proofs.one_call.Goals as goal
 
--- src/lib.rt:24:9
-pub returns-then-kind-eq0 : goal.returns-then-kind-eq0
-unfolding call_of
-returns-then-kind-eq0 c = rw (eq-eqb _ _ c.if-kind-eq0.true) (called-fill _ c.args.c _ _ _ _ _ _ _ _ _ _ c.fill.auto.out c.fill.ensures)
+pub returns-in-Fill : goal.returns-in-Fill
+returns-in-Fill c =
+    rw (c.in-Fill.is, rw c.in-Fill.is at c.requires) (called-fill _ c.args.c _ _ _ _ _ _ _ _ _ _ c.fill.auto.out c.fill.ensures)
 
--- src/lib.rt:27:9
-pub returns-then-kind-eq-PITCH : goal.returns-then-kind-eq-PITCH
-unfolding call_of
-returns-then-kind-eq-PITCH c = rw (ne_eqb _ _ c.if-kind-eq0.false, eq-eqb _ _ c.if-kind-eq-PITCH.true) (called-controls _ (λ d. pitch_moved d c.args.x c.args.g) _ (call-pitch _ _ _) c.args.c _ _ _ _ _ c.pitch.ensures)
+pub returns-in-Pitch : goal.returns-in-Pitch
+returns-in-Pitch c =
+    rw c.in-Pitch.is (called-controls _ (λ d. pitch_moved d c.in-Pitch.scale c.in-Pitch.coefficient) _ (call-pitch _ _ _) c.args.c _ _ _ _ _ c.pitch.ensures)
 
--- src/lib.rt:33:9
-pub returns-then-kind-eq2 : goal.returns-then-kind-eq2
-unfolding call_of
-returns-then-kind-eq2 c = rw (ne_eqb _ _ c.if-kind-eq0.false, ne_eqb _ _ c.if-kind-eq-PITCH.false, eq-eqb _ _ c.if-kind-eq2.true) (called-controls _ (λ d. bend_moved d c.args.x) _ (call-bend _ _) c.args.c _ _ _ _ _ c.bend.ensures)
+pub returns-in-Bend : goal.returns-in-Bend
+returns-in-Bend c = rw c.in-Bend.is (called-controls _ (λ d. bend_moved d c.in-Bend.x) _ (call-bend _ _) c.args.c _ _ _ _ _ c.bend.ensures)
 
--- src/lib.rt:10:1
-pub returns : goal.returns
-unfolding call_of
-returns c = rw (ne_eqb _ _ c.if-kind-eq0.false, ne_eqb _ _ c.if-kind-eq-PITCH.false, ne_eqb _ _ c.if-kind-eq2.false) (called-cutoff _ c.args.x c.args.c _ _ _ _ _ _ c.cutoff.ensures)
+pub returns-in_err-cutoff-in-Cutoff : goal.returns-in_err-cutoff-in-Cutoff
+returns-in_err-cutoff-in-Cutoff c =
+    let p = err_from_is_err_and c.from_residual.result c.from_residual.ensures.1 in
+    rw (passed-on c.in_err-cutoff-in-Cutoff.was p.1 p.2, controls-err c.args.c p.1, c.in-Cutoff.is)
+    (called-cutoff _ c.in-Cutoff.x c.args.c _ _ _ _ _ _ c.cutoff.ensures)
+
+pub returns-in_ok-cutoff-in-Cutoff : goal.returns-in_ok-cutoff-in-Cutoff
+returns-in_ok-cutoff-in-Cutoff c =
+    let a = c.args in
+    rw c.in-Cutoff.is
+    (subst (λ (n : ℕ). Called a.sheet.now (cutoff c.in-Cutoff.x) a.c a.out.now a.cells.now a.regs.now a.scr.now n a.c a.out.now c.cutoff.new.cells a.regs.now a.scr.now)
+    (answer-ok c.in_ok-cutoff-in-Cutoff.was)
+    (called-cutoff _ c.in-Cutoff.x a.c _ _ _ _ _ _ c.cutoff.ensures))

@@ -1,21 +1,34 @@
--- `player::build` meets its contract. Assumes nothing.
-use mathlib.Core.Path.{◌≡◌, sym, ◌∙◌}
-use native.Mathlib.Omega.{arith}
+use Rattle.std.specs.Prelude.{◌≡◌}
+use Rattle.std.proofs.Common.{sym, ◌∙◌}
+use Rattle.std.proofs.lemmas.Result.{err_from_is_err_and, IfOk-at_ok}
+use Rattle.refusal.specs.Refusal.{answer-ok, answer-err, passed-on}
+use Rattle.sheet.specs.Record.{count_of}
+use Rattle.layout.specs.Needs.{scratch_from}
+use Rattle.tables.specs.Tables.{Made}
+use Rattle.prepare.specs.declared.Ready.{Ready}
+use Rattle.std.proofs.Common.{arith}
 use Rattle.sheet.specs.Accepted.{rows-most}
-use Rattle.calls.specs.Calls.{builds-refused}
-use borrow.Author.Rules.{rules}
+use Rattle.calls.specs.Calls.{controls-err, builds-refused}
 use Rattle.player.proofs.build.Goals as goal
 
-pub prepare-p-requires : goal.prepare-p-requires
-prepare-p-requires c = (rows-most _ _ (omega arith), omega arith, omega arith, omega arith, omega arith, omega arith, omega arith, omega arith, omega arith, omega arith)
+pub prepare-requires : goal.prepare-requires
+prepare-requires c = (omega arith, (rows-most _ _ (omega arith), omega arith))
 
-pub returns-then-p-ne0 : goal.returns-then-p-ne0
-returns-then-p-ne0 c = builds-refused c.args.sheet.now c.args.c _ _ _ _ c.if-p-ne0.true c.prepare-p.ensures.answer
+pub returns-in_err-p : goal.returns-in_err-p
+returns-in_err-p c =
+    let p = err_from_is_err_and c.from_residual.result c.from_residual.ensures.1 in
+    rw (controls-err c.args.c p.1) (builds-refused c.args.sheet.now c.args.c _ _ _ _ (answer-err p.1) (passed-on c.in_err-p.was p.1 p.2 ∙ c.prepare.ensures.answer))
 
 pub begin-requires : goal.begin-requires
-begin-requires c = let p = c.prepare-p.ensures in
-    let z = c.if-p-ne0.false in
-    (p.made z, sym p.answer ∙ z, p.scratch z)
+begin-requires c =
+    let p = c.prepare.ensures in (
+      omega arith,
+      (
+        IfOk-at_ok (λ (y : Ready). Made c.args.sheet.now y.count c.prepare.new.t) c.in_ok-p.was p.made,
+        sym p.answer ∙ answer-ok c.in_ok-p.was,
+        IfOk-at_ok (λ (y : Ready). y.scratch ≡ scratch_from c.args.sheet.now (count_of c.args.sheet.now)) c.in_ok-p.was p.scratch,
+      ),
+    )
 
 pub returns : goal.returns
 returns c = c.begin.ensures

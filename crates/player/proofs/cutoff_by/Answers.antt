@@ -1,84 +1,27 @@
--- `player::cutoff_by` meets its contract. Assumes nothing.
-use mathlib.Core.Path.{◌≡◌, sym, ◌∙◌}
+use Rattle.std.specs.Prelude.{◌≡◌}
+use Rattle.std.proofs.Common.{sym, ◌∙◌}
+use Rattle.std.proofs.lemmas.Result.{err_from_is_err_and, IfOk-at_ok}
+use Rattle.refusal.specs.Refusal.{answer-ok, answer-err, passed-on}
+use Rattle.sheet.specs.Record.{count_of}
+use Rattle.layout.specs.Needs.{scratch_from}
+use Rattle.tables.specs.Tables.{Made}
+use Rattle.prepare.specs.declared.Ready.{Ready}
 use Rattle.machine.proofs.Laws.{room-enough, room-passed}
 use Rattle.calls.specs.Calls.{cuts-refused, cuts-all}
-use borrow.Author.Rules.{rules}
 use Rattle.player.proofs.cutoff_by.Goals as goal
 
-pub prepare-p-requires : goal.prepare-p-requires
-prepare-p-requires c = c.requires
-
-pub shape_of-kinds-then-p-ne0 : goal.shape_of-kinds-then-p-ne0
-shape_of-kinds-then-p-ne0 c = c.prepare-p.auto.kinds
-
-pub shape_of-firsts-then-p-ne0 : goal.shape_of-firsts-then-p-ne0
-shape_of-firsts-then-p-ne0 c = c.prepare-p.auto.firsts
-
-pub shape_of-nexts-then-p-ne0 : goal.shape_of-nexts-then-p-ne0
-shape_of-nexts-then-p-ne0 c = c.prepare-p.auto.nexts
-
-pub shape_of-lasts-then-p-ne0 : goal.shape_of-lasts-then-p-ne0
-shape_of-lasts-then-p-ne0 c = c.prepare-p.auto.lasts
-
-pub shape_of-acts-then-p-ne0 : goal.shape_of-acts-then-p-ne0
-shape_of-acts-then-p-ne0 c = c.prepare-p.auto.acts
-
-pub shape_of-begins-then-p-ne0 : goal.shape_of-begins-then-p-ne0
-shape_of-begins-then-p-ne0 c = c.prepare-p.auto.begins
-
-pub shape_of-afters-then-p-ne0 : goal.shape_of-afters-then-p-ne0
-shape_of-afters-then-p-ne0 c = c.prepare-p.auto.afters
-
-pub shape_of-places-then-p-ne0 : goal.shape_of-places-then-p-ne0
-shape_of-places-then-p-ne0 c = c.prepare-p.auto.places
-
-pub shape_of-words-then-p-ne0 : goal.shape_of-words-then-p-ne0
-shape_of-words-then-p-ne0 c = c.prepare-p.auto.words
-
-pub shape_of-blocks-then-p-ne0 : goal.shape_of-blocks-then-p-ne0
-shape_of-blocks-then-p-ne0 c = c.prepare-p.auto.blocks
-
-pub returns-then-p-ne0 : goal.returns-then-p-ne0
-returns-then-p-ne0 c = cuts-refused c.args.sheet.now c.args.x _ _ _ _ c.if-p-ne0.true c.prepare-p.ensures.answer
+pub returns-in_err-p : goal.returns-in_err-p
+returns-in_err-p g c =
+    let p = err_from_is_err_and c.from_residual.result c.from_residual.ensures.1 in
+    cuts-refused c.args.sheet.now c.args.x _ _ _ _ (answer-err p.1) (passed-on c.in_err-p.was p.1 p.2 ∙ c.prepare.ensures.answer)
 
 pub set_cutoff-requires : goal.set_cutoff-requires
-set_cutoff-requires c = let S = c.args.sheet.now in
-    let p = c.prepare-p.ensures in
-    let z = c.if-p-ne0.false in
-    let m = p.made z in
-    let r = room-enough S _ _ _ (room-passed S _ _ _ (sym p.answer ∙ z)).1 in
+set_cutoff-requires g c =
+    let p = c.prepare.ensures in
+    let S = c.args.sheet.now in
+    let m = IfOk-at_ok (λ (y : Ready). Made S y.count c.prepare.new.t) c.in_ok-p.was p.made in
+    let r = room-enough S _ _ _ (room-passed S _ _ _ (sym p.answer ∙ answer-ok c.in_ok-p.was)).1 in
     (m.passed, m.act_at, m.cells_at, rw m.passed.count r.cells)
 
-pub shape_of-kinds : goal.shape_of-kinds
-shape_of-kinds c = c.prepare-p.auto.kinds
-
-pub shape_of-firsts : goal.shape_of-firsts
-shape_of-firsts c = c.prepare-p.auto.firsts
-
-pub shape_of-nexts : goal.shape_of-nexts
-shape_of-nexts c = c.prepare-p.auto.nexts
-
-pub shape_of-lasts : goal.shape_of-lasts
-shape_of-lasts c = c.prepare-p.auto.lasts
-
-pub shape_of-acts : goal.shape_of-acts
-shape_of-acts c = c.prepare-p.auto.acts
-
-pub shape_of-begins : goal.shape_of-begins
-shape_of-begins c = c.prepare-p.auto.begins
-
-pub shape_of-afters : goal.shape_of-afters
-shape_of-afters c = c.prepare-p.auto.afters
-
-pub shape_of-places : goal.shape_of-places
-shape_of-places c = c.prepare-p.auto.places
-
-pub shape_of-words : goal.shape_of-words
-shape_of-words c = c.prepare-p.auto.words
-
-pub shape_of-blocks : goal.shape_of-blocks
-shape_of-blocks c = c.prepare-p.auto.blocks
-
 pub returns : goal.returns
-returns c = let p = c.prepare-p.ensures in
-    cuts-all c.args.sheet.now c.args.x _ _ _ _ (sym p.answer ∙ c.if-p-ne0.false) c.set_cutoff.ensures
+returns g c = cuts-all c.args.sheet.now c.args.x _ _ _ _ (sym c.prepare.ensures.answer ∙ answer-ok c.in_ok-p.was) c.set_cutoff.ensures

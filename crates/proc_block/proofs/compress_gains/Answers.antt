@@ -1,26 +1,7 @@
--- `proc_block::compress_gains` meets its contract. Assumes nothing.
-use mathlib.Core.Path.{refl, ap, ◌∙◌}
-use Prim.Native.Nat.{◌-◌}
-use native.Mathlib.Nat.{le_refl}
-use native.Mathlib.Omega.{arith}
-use lib.ListN.{length}
-use lib.Ieee.{Float, nan}
-use Rattle.block.specs.Loop.{Going, going_start, going-turn, going_end}
-use Rattle.proc.specs.Effects.{compress_gain}
-use lib.ListN.{get_or}
+use Rattle.std.proofs.Common.{rules}
 use Rattle.proc_block.specs.Steps.{level_gain_step}
-use borrow.Author.Rules.{rules}
 use Rattle.proc_block.proofs.compress_gains.Goals as goal
 
-pub loop-k-init : goal.loop-k-init
-loop-k-init c = going_start nan _ _ _
-
-pub loop-k-preserved : goal.loop-k-preserved
-unfolding level_gain_step
-loop-k-preserved c =
-    let l = c.loop-k in
-    let a = c.args in
-    going-turn nan _ _ _ l.invariant (omega arith) (c.compress_gain.ensures ∙ ap (λ (x : Float). compress_gain a.makeup (get_or a.levels.now l.k nan) x) (l.invariant.todo l.k (le_refl l.k))) (refl)
-
 pub returns : goal.returns
-returns c = (going_end nan _ _ _ c.loop-k.invariant (omega arith)).0
+unfolding level_gain_step
+returns c = (c.run_block.ensures (level_gain_step _ _ c.args.c) (λ k s r h p. search rules)).0

@@ -1,6 +1,4 @@
--- `proc_block::drive_tanh` meets its contract. Assumes nothing.
-use mathlib.Core.Path.{◌∙◌}
-use borrow.Author.Rules.{rules}
+use Rattle.std.proofs.Common.{◌∙◌}
 use Rattle.proc_block.proofs.Passes.{given-drive, after-drive}
 use Rattle.proc_block.proofs.drive_tanh.Goals as goal
 

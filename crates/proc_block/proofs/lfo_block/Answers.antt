@@ -1,9 +1,6 @@
--- `proc_block::lfo_block` meets its contract. Assumes nothing.
-use mathlib.Core.Path.{ap, ◌∙◌}
-use mathlib.Core.List.{map}
+use Rattle.std.proofs.Common.{map, ap, ◌∙◌}
 use Rattle.dsp.specs.Math.{sine}
 use Rattle.proc_block.proofs.Passes.{given-lfo}
-use borrow.Author.Rules.{rules}
 use Rattle.proc_block.proofs.lfo_block.Goals as goal
 
 pub returns : goal.returns

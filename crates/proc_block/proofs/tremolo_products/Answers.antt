@@ -1,26 +1,7 @@
--- `proc_block::tremolo_products` meets its contract. Assumes nothing.
-use mathlib.Core.Path.{refl, ap, ◌∙◌}
-use Prim.Native.Nat.{◌-◌}
-use native.Mathlib.Nat.{le_refl}
-use native.Mathlib.Omega.{arith}
-use lib.ListN.{length}
-use lib.Ieee.{Float, nan}
-use Rattle.block.specs.Loop.{Going, going_start, going-turn, going_end}
-use Rattle.proc.specs.Effects.{tremolo_by}
-use lib.ListN.{get_or}
+use Rattle.std.proofs.Common.{rules}
 use Rattle.proc_block.specs.Steps.{tremolo_by_step}
-use borrow.Author.Rules.{rules}
 use Rattle.proc_block.proofs.tremolo_products.Goals as goal
 
-pub loop-k-init : goal.loop-k-init
-loop-k-init c = going_start nan _ _ _
-
-pub loop-k-preserved : goal.loop-k-preserved
-unfolding tremolo_by_step
-loop-k-preserved c =
-    let l = c.loop-k in
-    let a = c.args in
-    going-turn nan _ _ _ l.invariant (omega arith) (c.tremolo_by.ensures ∙ ap (λ (x : Float). tremolo_by a.depth (get_or a.sines.now l.k nan) x) (l.invariant.todo l.k (le_refl l.k))) (refl)
-
 pub returns : goal.returns
-returns c = (going_end nan _ _ _ c.loop-k.invariant (omega arith)).0
+unfolding tremolo_by_step
+returns c = (c.run_block.ensures (tremolo_by_step _ _ _) (λ k s r h p. search rules)).0

@@ -1,6 +1,4 @@
--- `proc_unit::modal` meets its contract. Assumes nothing.
 use Rattle.proc_unit.specs.Runs.{modal-ran}
-use borrow.Author.Rules.{rules}
 use Rattle.proc_unit.proofs.modal.Goals as goal
 
 pub returns : goal.returns

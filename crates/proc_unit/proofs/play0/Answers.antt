@@ -1,9 +1,7 @@
--- `proc_unit::play0` meets its contract. Assumes nothing.
 use Prim.Native.Nat.{◌+◌, ◌*◌}
 use native.Mathlib.Omega.{arith}
 use Rattle.sheet.specs.Laws.{rest}
 use Rattle.proc_unit.specs.Fit.{fits, inside, unit-of}
-use borrow.Author.Rules.{rules}
 use Rattle.proc_unit.proofs.play0.Goals as goal
 
 pub overflow_mul-a : goal.overflow_mul-a

@@ -1,10 +1,8 @@
--- `proc_unit::play1` meets its contract. Assumes nothing.
 use Prim.Native.Nat.{◌+◌, ◌*◌, ◌/◌}
 use native.Mathlib.Omega.{arith}
 use lib.ListN.{length}
 use Rattle.sheet.specs.Laws.{rest}
 use Rattle.proc_unit.specs.Fit.{fits-value, inside, unit-of}
-use borrow.Author.Rules.{rules}
 use Rattle.proc_unit.proofs.play1.Goals as goal
 
 pub overflow_mul-a : goal.overflow_mul-a

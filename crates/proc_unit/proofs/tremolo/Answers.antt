@@ -1,6 +1,4 @@
--- `proc_unit::tremolo` meets its contract. Assumes nothing.
 use Rattle.proc_unit.specs.Runs.{tremolo-ran}
-use borrow.Author.Rules.{rules}
 use Rattle.proc_unit.proofs.tremolo.Goals as goal
 
 pub returns : goal.returns

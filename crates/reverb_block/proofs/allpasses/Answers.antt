@@ -1,40 +1,27 @@
--- `reverb_block::allpasses` meets its contract. Assumes nothing.
-use mathlib.Core.Path.{◌≡◌, refl, ap, ◌∙◌}
-use mathlib.Core.List.{List, ◌++◌}
-use Prim.Native.Nat.{◌-◌, ◌+◌, ◌≤◌, ◌<◌}
+use mathlib.Core.Path.{◌≡◌, refl}
+use Prim.Native.Nat.{◌+◌, ◌<◌}
 use native.Mathlib.Omega.{arith}
-use lib.ListN.{length, length-set}
-use lib.Ieee.{Float}
-use borrow.Author.Rules.{rules}
+use lib.ListN.{length-set}
 use Rattle.block.specs.Bank.{units, units-turn}
-use Rattle.reverb_block.specs.Reverb as bank
-use Rattle.reverb_block.specs.Reverb.{line_from}
-use Rattle.reverb_block.specs.Lines.{LineAt, line-inside, line-next, allpass-turn}
+use Rattle.reverb_block.specs.Lines.{line-inside, line-next, line-again, allpass-turn}
 use Rattle.reverb_block.proofs.allpasses.Goals as goal
 
 pub loop-k-init : goal.loop-k-init
 unfolding units
-loop-k-init c =
-    let p = c.requires in
-    (λ ss. refl, record { placed = p.0; long = p.1; start = p.2 }, omega arith)
+loop-k-init c = (λ ss. refl, c.requires)
 
 pub loop-k-preserved : goal.loop-k-preserved
 loop-k-preserved c =
     let l = c.loop-k in
-    let o = c.allpass-o in
     let w = c.next_place.ensures in
-    let b : 6 + l.k < 10 = omega arith in (
-      λ ss. units-turn _ _ (l.invariant.0 ss) (allpass-turn l.invariant.1 b l.wet ss o.ensures w.0),
-      line-next l.invariant.1 b w.1 (simp length-set) (omega arith),
-      omega arith,
-    )
+    let b : 6 + l.k < 10 = omega arith in
+    (λ ss. units-turn _ _ (l.invariant.0 ss) (allpass-turn l.invariant.1 b l.wet ss c.allpass-y.ensures w.0), line-next l.invariant.1 b w.1 (simp length-set) (omega arith))
 
 pub returns : goal.returns
 returns c =
     let l = c.loop-k in
-    let p = c.requires in
     let e : l.k ≡ 4 = omega arith in
-    (λ ss. rw e at (l.invariant.0 ss), l.invariant.1.placed, omega (arith, l.invariant.1.long, p.1))
+    (λ ss. rw e at (l.invariant.0 ss), line-again l.invariant.1 c.requires.start)
 
 pub overflow_add-w : goal.overflow_add-w
 overflow_add-w c = let i = line-inside c.loop-k.invariant.1 (omega arith) in omega arith

@@ -1,42 +1,32 @@
--- `reverb_block::combs` meets its contract. Assumes nothing.
-use mathlib.Core.Path.{◌≡◌, refl, ap, ◌∙◌}
-use mathlib.Core.List.{List, ◌++◌}
-use Prim.Native.Nat.{◌-◌, ◌+◌, ◌≤◌, ◌<◌}
+use mathlib.Core.Path.{◌≡◌, refl, ◌∙◌}
+use Prim.Native.Nat.{◌<◌}
 use native.Mathlib.Omega.{arith}
-use lib.ListN.{length, length-set}
-use lib.Ieee.{Float}
-use borrow.Author.Rules.{rules}
+use lib.ListN.{length-set}
 use Rattle.block.specs.Bank.{units, units-turn}
-use Rattle.reverb_block.specs.Reverb as bank
-use Rattle.reverb_block.specs.Reverb.{line_from}
-use Rattle.reverb_block.specs.Lines.{LineAt, line-inside, line-next, comb-turn}
+use Rattle.reverb_block.specs.Lines.{line-inside, line-next, line-first, comb-turn}
 use Rattle.reverb_block.proofs.combs.Goals as goal
 
 pub loop-k-init : goal.loop-k-init
-unfolding units line_from
-loop-k-init c =
-    let p = c.requires in
-    (refl, record { placed = p.0; long = p.1; start = refl }, p.2, omega arith)
+unfolding units
+loop-k-init c = (refl, c.requires.0, c.requires.1)
 
 pub loop-k-preserved : goal.loop-k-preserved
 loop-k-preserved c =
     let l = c.loop-k in
     let a = c.args in
-    let o = c.comb-o in
+    let o = c.comb-y in
     let w = c.next_place.ensures in
     let b : l.k < 10 = omega arith in (
       units-turn _ _ l.invariant.0 (comb-turn l.invariant.1 b a.feedback a.x l.wet l.stores o.ensures w.0),
       line-next l.invariant.1 b w.1 (simp length-set) refl,
-      length-set l.stores l.k o.result.store ∙ l.invariant.2,
-      omega arith,
+      length-set l.stores l.k o.result.1 ∙ l.invariant.2,
     )
 
 pub returns : goal.returns
 returns c =
     let l = c.loop-k in
-    let p = c.requires in
     let e : l.k ≡ 6 = omega arith in
-    (rw e at l.invariant.0, l.invariant.1.placed, omega (arith, l.invariant.1.long, p.1), l.invariant.2)
+    (rw e at l.invariant.0, line-first l.invariant.1, l.invariant.2)
 
 pub overflow_add-w : goal.overflow_add-w
 overflow_add-w c = let i = line-inside c.loop-k.invariant.1 (omega arith) in omega arith

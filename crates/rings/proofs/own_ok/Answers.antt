@@ -5,7 +5,6 @@ use Rattle.lines.specs.Lines.{reverb_lines}
 use Rattle.layout.specs.Needs.{need_of, cells_by, registers_by}
 use Rattle.unit.specs.State.{places_ok, own_ok}
 use Rattle.rings.specs.Rings.{unchecked}
-use borrow.Author.Rules.{rules}
 use Rattle.rings.proofs.own_ok.Goals as goal
 
 pub place_ok-requires : goal.place_ok-requires

@@ -6,7 +6,6 @@ use Rattle.layout.specs.Counts.{cells-built, registers-built}
 use lib.ListN.{get_or}
 use Rattle.rings.specs.Parts.{role-built, role-unbuilt, part_of, part-is, part_length}
 use Rattle.rings.specs.Rings.{record-unchecked, record-checked}
-use borrow.Author.Rules.{rules}
 use Rattle.rings.proofs.record_ok.Goals as goal
 
 pub returns-then-acts-i-lt2 : goal.returns-then-acts-i-lt2

@@ -1,14 +1,11 @@
--- `rings::rings_ok` meets its contract. The records below i pass. Assumes nothing.
 use mathlib.Core.Path.{◌≡◌, refl, sym, ap, ap₂, ◌∙◌}
-use mathlib.Core.Bool.{true, ◌&&◌}
-use Prim.Native.Nat.{◌-◌, ◌≤◌}
+use mathlib.Core.Bool.{◌&&◌}
 use native.Mathlib.Omega.{arith}
 use Rattle.sheet.specs.Record.{count_of}
 use Rattle.sheet.specs.Checks.{all}
 use Rattle.sheet.specs.Laws.{all-suc}
 use Rattle.unit.specs.State.{record_ok}
-use Rattle.rings.specs.Rings.{not-true, not-false, all-not}
-use borrow.Author.Rules.{rules}
+use Rattle.rings.specs.Rings.{not-false, all-not}
 use Rattle.rings.proofs.rings_ok.Goals as goal
 
 pub loop-i-init : goal.loop-i-init

@@ -3,7 +3,6 @@ use Prim.Native.Nat.{◌<◌}
 use native.Mathlib.Omega.{arith}
 use lib.ListN.{length-set}
 use Rattle.layout.specs.Tables.{owned-turn, first-low, next_low}
-use borrow.Author.Rules.{rules}
 use Rattle.roles.proofs.own.Goals as goal
 use Rattle.roles.proofs.own.Goals.{Start}
 

@@ -1,5 +1,4 @@
 -- `roles::plan` meets its contract. Each pass leaves what the next one asks for. Assumes nothing.
-use borrow.Author.Rules.{rules}
 use Rattle.roles.proofs.plan.Goals as goal
 
 pub stages-requires : goal.stages-requires

@@ -5,7 +5,6 @@ use Prim.Native.Nat.{◌<◌}
 use native.Mathlib.Omega.{arith}
 use Rattle.layout.specs.Tables.{owner-in}
 use Rattle.layout.proofs.Tables.{root_is, role-entry}
-use borrow.Author.Rules.{rules}
 use Rattle.roles.proofs.role_at.Goals as goal
 use Rattle.roles.proofs.role_at.Goals.{Start}
 

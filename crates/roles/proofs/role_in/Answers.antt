@@ -4,7 +4,6 @@ use mathlib.Core.Path.{◌∙◌}
 use borrow.Author.Tests.{eq-eqb, ne_eqb}
 use Rattle.layout.specs.Built.{role_in}
 use Rattle.layout.specs.Tables.{code-low, code-built, root-code}
-use borrow.Author.Rules.{rules}
 use Rattle.roles.proofs.role_in.Goals as goal
 
 pub returns-then-r-lt2 : goal.returns-then-r-lt2

@@ -1,11 +1,9 @@
--- `roles::roles` meets its contract. The loop keeps the roles and the links below i, and the owner of every record that a link below i leads to. Assumes nothing.
-use mathlib.Core.Path.{◌≡◌, refl}
-use Prim.Native.Nat.{◌-◌, ◌≤◌}
+use mathlib.Core.Path.{refl}
 use native.Mathlib.Omega.{arith}
 use borrow.Author.Count.{below_none}
-use lib.ListN.{length, length-set}
-use Rattle.layout.specs.Built.{role, begin, after}
-use Rattle.layout.specs.Tables.{role_code, Below, Owned, front-done, front-more, first_entry, owned-entry}
+use lib.ListN.{length-set}
+use Rattle.layout.specs.Built.{role}
+use Rattle.layout.specs.Tables.{role_code, front-done, front-more, first_entry, owned-entry}
 use Rattle.layout.proofs.Tables.{begins-turn, afters-turn}
 use borrow.Author.Rules.{rules}
 use Rattle.roles.proofs.roles.Goals as goal
@@ -58,48 +56,6 @@ pub returns : goal.returns
 returns c =
     let l = c.loop-i in
     (front-done _ _ _ l.i (omega arith) (omega arith) l.invariant.6, front-done _ _ _ l.i (omega arith) (omega arith) l.invariant.7, front-done _ _ _ l.i (omega arith) (omega arith) l.invariant.8)
-
-pub offset_bounds-owned-i : goal.offset_bounds-owned-i
-offset_bounds-owned-i c = omega arith
-
-pub bounds-owned-i : goal.bounds-owned-i
-bounds-owned-i c = omega arith
-
-pub offset_bounds-firsts-i : goal.offset_bounds-firsts-i
-offset_bounds-firsts-i c = omega arith
-
-pub bounds-firsts-i : goal.bounds-firsts-i
-bounds-firsts-i c = omega arith
-
-pub offset_bounds-nexts-i : goal.offset_bounds-nexts-i
-offset_bounds-nexts-i c = omega arith
-
-pub bounds-nexts-i : goal.bounds-nexts-i
-bounds-nexts-i c = omega arith
-
-pub bounds-kinds-i : goal.bounds-kinds-i
-bounds-kinds-i c = omega arith
-
-pub offset_bounds-begins-i : goal.offset_bounds-begins-i
-offset_bounds-begins-i c = omega arith
-
-pub bounds-begins-i : goal.bounds-begins-i
-bounds-begins-i c = omega arith
-
-pub offset_bounds-afters-i : goal.offset_bounds-afters-i
-offset_bounds-afters-i c = omega arith
-
-pub bounds-afters-i : goal.bounds-afters-i
-bounds-afters-i c = omega arith
-
-pub bounds-acts-i : goal.bounds-acts-i
-bounds-acts-i c = omega arith
-
-pub overflow_add-i : goal.overflow_add-i
-overflow_add-i c = omega arith
-
-pub loop-i-smaller : goal.loop-i-smaller
-loop-i-smaller c = omega arith
 
 pub shape_of-owned : goal.shape_of-owned
 shape_of-owned c = c.loop-i.invariant.1

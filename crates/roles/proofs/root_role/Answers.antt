@@ -1,6 +1,5 @@
 -- `roles::root_role` meets its contract. By cases. Assumes nothing.
 use mathlib.Core.Path.{sym, ◌∙◌}
-use borrow.Author.Rules.{rules}
 use Rattle.roles.proofs.root_role.Goals as goal
 
 pub returns-then-is_processor : goal.returns-then-is_processor

@@ -1,13 +1,9 @@
--- `roles::stages` meets its contract. Going down, the loop keeps both tables from j on; what a record is after rests on the next one, which stands above. Assumes nothing.
-use mathlib.Core.Path.{◌≡◌, refl}
-use Prim.Native.Nat.{◌-◌, ◌≤◌}
+use mathlib.Core.Path.{refl}
+use Prim.Native.Nat.{◌-◌}
 use native.Mathlib.Omega.{arith}
-use lib.ListN.{length, length-set}
-use Rattle.layout.specs.Built.{trailing}
-use Rattle.layout.specs.Roles.{stage_from}
-use Rattle.layout.specs.Tables.{flag, From, back_done, next-entry}
+use lib.ListN.{length-set}
+use Rattle.layout.specs.Tables.{back_done, next-entry}
 use Rattle.layout.proofs.Tables.{stages-turn}
-use borrow.Author.Rules.{rules}
 use Rattle.roles.proofs.stages.Goals as goal
 
 pub loop-j-init : goal.loop-j-init
@@ -45,24 +41,3 @@ pub returns : goal.returns
 returns c =
     let l = c.loop-j in
     (back_done _ _ _ l.j (omega arith) (omega arith) l.invariant.3, back_done _ _ _ l.j (omega arith) (omega arith) l.invariant.4)
-
-pub overflow_sub-j : goal.overflow_sub-j
-overflow_sub-j c = omega arith
-
-pub offset_bounds-nexts-j : goal.offset_bounds-nexts-j
-offset_bounds-nexts-j c = omega arith
-
-pub bounds-nexts-j : goal.bounds-nexts-j
-bounds-nexts-j c = omega arith
-
-pub bounds-lasts-j : goal.bounds-lasts-j
-bounds-lasts-j c = omega arith
-
-pub offset_bounds-froms-j : goal.offset_bounds-froms-j
-offset_bounds-froms-j c = omega arith
-
-pub bounds-froms-j : goal.bounds-froms-j
-bounds-froms-j c = omega arith
-
-pub loop-j-smaller : goal.loop-j-smaller
-loop-j-smaller c = omega arith

@@ -1,7 +1,6 @@
 -- `roles::trails` meets its contract. By cases. Assumes nothing.
 use mathlib.Core.Path.{sym, ◌∙◌}
 use borrow.Author.Tests.{eq-eqb, ne_eqb}
-use borrow.Author.Rules.{rules}
 use Rattle.roles.proofs.trails.Goals as goal
 
 pub returns-then-n-eq0 : goal.returns-then-n-eq0

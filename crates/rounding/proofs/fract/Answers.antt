@@ -1,8 +1,6 @@
--- `rounding::fract` meets its contract. Assumes nothing.
-use mathlib.Core.Path.{◌≡◌, refl, sym, subst}
+use mathlib.Core.Path.{sym, subst}
 use lib.Dec.{T}
-use lib.Ieee.{Float, binary32, fits, lt, of_bits}
-use borrow.Author.Rules.{rules}
+use lib.Ieee.{binary32, fits, lt}
 use Rattle.ieee.proofs.Tests.{two_to, yes, no, zero-32, one-32}
 use Rattle.rounding.specs.Whole.{cut}
 use Rattle.rounding.proofs.Phase.{first-period, second-period, one-above, two-32}

@@ -1,4 +1,3 @@
--- `shape::shape` meets its contract. Assumes nothing.
 use mathlib.Core.Path.{◌≡◌, sym, ap₂, ◌∙◌}
 use mathlib.Core.Bool.{true, ◌&&◌}
 use mathlib.Core.List.{List}
@@ -14,29 +13,29 @@ linked-in : {ks fs ns : List ℕ} → LinksIn fs ns → length ks ≡ length fs 
 linked-in l e o = record { linked = linked_of l.links o; kinds_long = e; next_long = l.next_long }
 
 pub chains_ok-requires : goal.chains_ok-requires
-chains_ok-requires c = linked-in c.requires.links_in c.requires.kinds_len.0 (sym c.once.ensures ∙ c.if-once.true)
+chains_ok-requires c = linked-in c.requires.links_in c.requires.kinds_len.0 (sym c.once.ensures ∙ c.if-not-once.false)
 
 pub too_deep-requires : goal.too_deep-requires
-too_deep-requires c = record { linked_in = linked-in c.requires.links_in c.requires.kinds_len.0 (sym c.once.ensures ∙ c.if-once.true); in_bounds = c.requires.kinds_len.1 }
+too_deep-requires c = record { linked_in = linked-in c.requires.links_in c.requires.kinds_len.0 (sym c.once.ensures ∙ c.if-not-once.false); in_bounds = c.requires.kinds_len.1 }
+
+pub returns-then-not-once : goal.returns-then-not-once
+returns-then-not-once c = shape-five _ _ _ _ (sym c.once.ensures ∙ c.if-not-once.true)
+
+pub returns-then-not-chains_ok-is_node : goal.returns-then-not-chains_ok-is_node
+returns-then-not-chains_ok-is_node c =
+    let once = sym c.once.ensures ∙ c.if-not-once.false in
+    shape-six _ _ _ _ once (sym (ap₂ ◌&&◌ c.chains_ok.ensures c.is_node.ensures) ∙ c.if-not-chains_ok-is_node.true)
 
 pub returns-then-too_deep : goal.returns-then-too_deep
 returns-then-too_deep c =
     let links = c.requires.links_in.links in
-    let once = sym c.once.ensures ∙ c.if-once.true in
-    let chains = sym (ap₂ ◌&&◌ c.chains_ok.ensures c.is_node.ensures) ∙ c.if-chains_ok-is_node.true in
+    let once = sym c.once.ensures ∙ c.if-not-once.false in
+    let chains = sym (ap₂ ◌&&◌ c.chains_ok.ensures c.is_node.ensures) ∙ c.if-not-chains_ok-is_node.false in
     shape-seven _ _ _ _ links once chains (sym c.too_deep.ensures ∙ c.if-too_deep.true)
 
-pub returns-else-too_deep : goal.returns-else-too_deep
-returns-else-too_deep c =
+pub returns : goal.returns
+returns c =
     let links = c.requires.links_in.links in
-    let once = sym c.once.ensures ∙ c.if-once.true in
-    let chains = sym (ap₂ ◌&&◌ c.chains_ok.ensures c.is_node.ensures) ∙ c.if-chains_ok-is_node.true in
+    let once = sym c.once.ensures ∙ c.if-not-once.false in
+    let chains = sym (ap₂ ◌&&◌ c.chains_ok.ensures c.is_node.ensures) ∙ c.if-not-chains_ok-is_node.false in
     shape-none _ _ _ _ links once chains (sym c.too_deep.ensures ∙ c.if-too_deep.false)
-
-pub returns-else-chains_ok-is_node : goal.returns-else-chains_ok-is_node
-returns-else-chains_ok-is_node c =
-    let once = sym c.once.ensures ∙ c.if-once.true in
-    shape-six _ _ _ _ once (sym (ap₂ ◌&&◌ c.chains_ok.ensures c.is_node.ensures) ∙ c.if-chains_ok-is_node.false)
-
-pub returns-else-once : goal.returns-else-once
-returns-else-once c = shape-five _ _ _ _ (sym c.once.ensures ∙ c.if-once.false)

@@ -1,8 +1,14 @@
--- `source_block::env_block` meets its contract. Assumes nothing.
-use mathlib.Core.Path.{◌∙◌}
+use Rattle.std.proofs.Common.{◌∙◌, rules}
+use Rattle.source_block.specs.Steps.{env_step, seconds_step, env_level_step}
 use Rattle.source_block.proofs.Passes.{given-env}
-use borrow.Author.Rules.{rules}
 use Rattle.source_block.proofs.env_block.Goals as goal
 
 pub returns-then-t-out-le16777216 : goal.returns-then-t-out-le16777216
-returns-then-t-out-le16777216 c = let a = c.args in c.env_levels.ensures ∙ given-env a.a a.d a.s a.r a.punch a.srf a.rel_start a.t _ _ c.env_seconds.ensures
+unfolding seconds_step env_level_step
+returns-then-t-out-le16777216 c =
+    let ys = (c.run_block.ensures (seconds_step _ _) (λ k s r h p. search rules)).0 in
+    (c.run_block-then-t-out-le16777216.ensures (env_level_step _ _ _) (λ k s r h p. search rules)).0 ∙ given-env _ _ _ _ _ _ ys
+
+pub returns-else-t-out-le16777216 : goal.returns-else-t-out-le16777216
+unfolding env_step
+returns-else-t-out-le16777216 c = (c.run_block-else-t-out-le16777216.ensures (env_step _ _ _ _) (λ k s r h p. search rules)).0

@@ -1,30 +1,18 @@
--- `source_unit::noise` meets its contract. Assumes nothing.
-use mathlib.Core.Path.{ap, ◌∙◌}
-use borrow.Author.Tests.{ne_eqb}
-use Rattle.dsl.specs.Options.{noise_color_of}
-use Rattle.layout.specs.Needs.{noise_cells}
-use Rattle.layout.specs.Counts.{noise-other}
-use borrow.Author.Rules.{rules}
+use Rattle.std.proofs.Common.{ap, ◌∙◌}
+use Rattle.source_unit.specs.Laws.{color_cells}
 use Rattle.source_unit.proofs.noise.Goals as goal
 
 pub pink-requires : goal.pink-requires
-pink-requires c = (c.requires.0 ∙ ap noise_cells c.in-1.is, c.requires.1)
+pink-requires c = (c.requires.0 ∙ ap color_cells c.in-Pink.is, c.requires.1)
 
 pub brown-requires : goal.brown-requires
-brown-requires c =
-    let n = c.in_default.in_default-own.rest in
-    (c.requires.0 ∙ noise-other _ n.0.1 n.1, c.requires.1)
+brown-requires c = (c.requires.0 ∙ ap color_cells c.in-Brown.is, c.requires.1)
 
-pub returns-in-0 : goal.returns-in-0
-unfolding noise_color_of
-returns-in-0 c = λ m. rw c.in-0.is (c.white.ensures c.args.cells.now m)
+pub returns-in-White : goal.returns-in-White
+returns-in-White c = λ m. rw c.in-White.is (c.white.ensures c.args.cells.now m)
 
-pub returns-in-1 : goal.returns-in-1
-unfolding noise_color_of
-returns-in-1 c = λ m. rw c.in-1.is (c.pink.ensures m)
+pub returns-in-Pink : goal.returns-in-Pink
+returns-in-Pink c = λ m. rw c.in-Pink.is (c.pink.ensures m)
 
-pub returns-in_default : goal.returns-in_default
-unfolding noise_color_of
-returns-in_default c =
-    let n = c.in_default.in_default-own.rest in
-    λ m. rw (ne_eqb _ _ n.0.1, ne_eqb _ _ n.1) (c.brown.ensures m)
+pub returns-in-Brown : goal.returns-in-Brown
+returns-in-Brown c = λ m. rw c.in-Brown.is (c.brown.ensures m)

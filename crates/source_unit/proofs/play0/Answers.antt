@@ -1,53 +1,26 @@
--- `source_unit::play0` meets its contract. Assumes nothing.
-use mathlib.Core.Path.{refl, ◌≡◌}
+use mathlib.Core.Path.{refl, ◌≡◌, sym, ap, ◌∙◌}
 use Prim.Native.Nat.{◌+◌, ◌*◌}
 use native.Mathlib.Omega.{arith}
+use Rattle.dsl.specs.Options.{noise_color_of}
+use Rattle.sheet.specs.Record.{option_of}
 use Rattle.sheet.specs.Laws.{rest}
 use Rattle.layout.specs.Needs.{need_of}
 use Rattle.unit.specs.Sources.{source_unit}
 use Rattle.value_unit.specs.Lent.{lent-in, lent-cells, lent-registers}
-use Rattle.source_unit.specs.Laws.{source_is}
+use Rattle.source_unit.specs.Laws.{source_is, color_cells, color-cells}
 use borrow.Author.Rules.{rules}
 use Rattle.source_unit.proofs.play0.Goals as goal
-
-pub srf_of-srf-requires : goal.srf_of-srf-requires
-srf_of-srf-requires c = let h = lent-in c.requires.0 in search rules
-
-pub overflow_mul-r : goal.overflow_mul-r
-overflow_mul-r c = let h = lent-in c.requires.0 in search rules
-
-pub overflow_add-r : goal.overflow_add-r
-overflow_add-r c = let h = lent-in c.requires.0 in search rules
-
-pub slice_bounds-r-count : goal.slice_bounds-r-count
-slice_bounds-r-count c = let h = lent-in c.requires.0 in search rules
-
-pub slice_bounds-r-start : goal.slice_bounds-r-start
-slice_bounds-r-start c = let h = lent-in c.requires.0 in search rules
-
-pub impact-requires : goal.impact-requires
-impact-requires c = let h = lent-in c.requires.0 in search rules
-
-pub length-requires : goal.length-requires
-length-requires c = let h = lent-in c.requires.0 in search rules
-
-pub env-requires : goal.env-requires
-env-requires c = let h = lent-in c.requires.0 in search rules
-
-pub option-requires : goal.option-requires
-option-requires c = let h = lent-in c.requires.0 in search rules
 
 pub noise-requires : goal.noise-requires
 unfolding need_of
 noise-requires c =
     let k = c.in-9.is in
-    (rw (c.option.ensures, rest c.args.sheet.now (24 + 40 * c.args.i)) (lent-cells c.requires.0 9 k), lent-registers c.requires.0 9 k)
+    (lent-cells c.requires.0 9 k ∙ color-cells _ ∙ sym (ap color_cells (c.from.ensures ∙ ap noise_color_of (c.option.ensures ∙ ap option_of (rest c.args.sheet.now (24 + 40 * c.args.i))))), lent-registers c.requires.0 9 k)
 
 pub dust-requires : goal.dust-requires
 unfolding need_of
 dust-requires c =
-    let n = c.in_default.in_default-own.rest in
-    let k : c.args.kind ≡ 10 = omega (arith, c.requires, n) in
+    let k : c.args.kind ≡ 10 = omega (arith, c.requires) in
     let h = lent-in c.requires.0 in
     (search rules, lent-cells c.requires.0 10 k, lent-registers c.requires.0 10 k)
 
@@ -67,10 +40,10 @@ pub returns-in-9 : goal.returns-in-9
 unfolding source_unit
 returns-in-9 c =
     let q = c.noise.ensures c.args.c in
-    rw (source_is c.requires.0 9 c.in-9.is refl) (rw (c.option.ensures, rest c.args.sheet.now (24 + 40 * c.args.i)) at q)
+    rw (source_is c.requires.0 9 c.in-9.is refl) (rw (c.from.ensures, c.option.ensures, rest c.args.sheet.now (24 + 40 * c.args.i)) at q)
 
 pub returns-in_default : goal.returns-in_default
 unfolding source_unit
 returns-in_default c =
     let q = c.dust.ensures c.args.c in
-    rw (source_is c.requires.0 10 (omega (arith, c.requires, c.in_default.in_default-own.rest)) refl) (rw (c.srf_of-srf.ensures, rest c.args.sheet.now (24 + 40 * c.args.i)) at q)
+    rw (source_is c.requires.0 10 (omega (arith, c.requires)) refl) (rw (c.srf_of-srf.ensures, rest c.args.sheet.now (24 + 40 * c.args.i)) at q)

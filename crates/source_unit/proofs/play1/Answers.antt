@@ -1,4 +1,3 @@
--- `source_unit::play1` meets its contract. Assumes nothing.
 use mathlib.Core.Path.{refl}
 use Prim.Native.Nat.{◌+◌, ◌*◌}
 use native.Mathlib.Omega.{arith}
@@ -10,39 +9,23 @@ use Rattle.source_unit.specs.Laws.{source_is}
 use borrow.Author.Rules.{rules}
 use Rattle.source_unit.proofs.play1.Goals as goal
 
-pub srf_of-srf-requires : goal.srf_of-srf-requires
-srf_of-srf-requires c = let h = lent-in c.requires.0 in search rules
-
 pub sine-requires : goal.sine-requires
 unfolding need_of
-sine-requires c = (c.requires.5, c.requires.6.long, lent-cells c.requires.0 1 c.in-1.is)
+sine-requires c = ((c.requires.5, c.requires.6.long), lent-cells c.requires.0 1 c.in-1.is)
 
 pub saw-requires : goal.saw-requires
 unfolding need_of
-saw-requires c = (c.requires.5, c.requires.6.long, lent-cells c.requires.0 3 c.in-3.is)
+saw-requires c = ((c.requires.5, c.requires.6.long), lent-cells c.requires.0 3 c.in-3.is)
 
 pub triangle-requires : goal.triangle-requires
 unfolding need_of
-triangle-requires c = (c.requires.5, c.requires.6.long, lent-cells c.requires.0 4 c.in-4.is)
-
-pub overflow_mul-i : goal.overflow_mul-i
-overflow_mul-i c = let h = lent-in c.requires.0 in search rules
-
-pub overflow_add-i : goal.overflow_add-i
-overflow_add-i c = let h = lent-in c.requires.0 in search rules
-
-pub slice_bounds-super_voices-count : goal.slice_bounds-super_voices-count
-slice_bounds-super_voices-count c = let h = lent-in c.requires.0 in search rules
-
-pub slice_bounds-super_voices-start : goal.slice_bounds-super_voices-start
-slice_bounds-super_voices-start c = let h = lent-in c.requires.0 in search rules
+triangle-requires c = ((c.requires.5, c.requires.6.long), lent-cells c.requires.0 4 c.in-4.is)
 
 pub super_voices-requires : goal.super_voices-requires
 unfolding need_of
 super_voices-requires c =
-    let n = c.in_default.in_default-own.rest in
     let h = lent-in c.requires.0 in
-    (c.requires.5, c.requires.6.long, rw (rest c.args.sheet.now (24 + 40 * c.args.i)) (lent-cells c.requires.0 6 (omega (arith, c.requires, n))), search rules)
+    ((c.requires.5, c.requires.6.long), rw (rest c.args.sheet.now (24 + 40 * c.args.i)) (lent-cells c.requires.0 6 (omega (arith, c.requires))), search rules)
 
 pub returns-in-1 : goal.returns-in-1
 unfolding source_unit
@@ -65,6 +48,5 @@ returns-in-4 c =
 pub returns-in_default : goal.returns-in_default
 unfolding source_unit
 returns-in_default c =
-    let n = c.in_default.in_default-own.rest in
     let q = c.super_voices.ensures c.args.c c.args.regs.now c.requires.6 in
-    rw (source_is c.requires.0 6 (omega (arith, c.requires, n)) refl) (rw (c.srf_of-srf.ensures, rest c.args.sheet.now (24 + 40 * c.args.i)) at q)
+    rw (source_is c.requires.0 6 (omega (arith, c.requires)) refl) (rw (c.srf_of-srf.ensures, rest c.args.sheet.now (24 + 40 * c.args.i)) at q)

@@ -1,4 +1,3 @@
--- `source_unit::white` meets its contract. Assumes nothing.
 use mathlib.Core.Path.{refl, ap, ◌∙◌}
 use mathlib.Core.List.{[], ◌∷◌}
 use Prim.Native.Nat.{ℕ}
@@ -9,7 +8,6 @@ use Rattle.unit.specs.Own.{Own}
 use Rattle.unit.specs.Sources.{white_unit}
 use Rattle.unit.specs.Block.{ran-part}
 use Rattle.tree.specs.Lists.{written, one-stored}
-use borrow.Author.Rules.{rules}
 use Rattle.source_unit.proofs.white.Goals as goal
 
 pub returns : goal.returns

@@ -1,4 +1,3 @@
--- `start::cells` meets its contract. By the kind. Assumes nothing.
 use mathlib.Core.Path.{sym, ap, ◌∙◌}
 use Prim.Native.Nat.{◌+◌, ◌*◌}
 use native.Mathlib.Omega.{arith}
@@ -9,7 +8,6 @@ use Rattle.unit.specs.Laws.{filter-need}
 use Rattle.unit.specs.Start.{super_start, start_cells}
 use Rattle.start_values.specs.Written.{zeroed}
 use Rattle.start.specs.Cells.{record-room, filter-start, low-start}
-use borrow.Author.Rules.{rules}
 use Rattle.start.proofs.cells.Goals as goal
 
 pub super_start-requires : goal.super_start-requires

@@ -1,4 +1,3 @@
--- `start::late_cells` meets its contract. By the kind. Assumes nothing.
 use mathlib.Core.Path.{sym, ap, ◌∙◌}
 use Prim.Native.Nat.{◌+◌, ◌*◌}
 use native.Mathlib.Omega.{arith}
@@ -11,7 +10,6 @@ use Rattle.layout.specs.Tables.{first_entry}
 use Rattle.unit.specs.Start.{drive_start, compress_start, rand_start, start_cells}
 use Rattle.start_values.specs.Written.{zeroed}
 use Rattle.start.specs.Cells.{record-room, chain_start, high-start}
-use borrow.Author.Rules.{rules}
 use Rattle.start.proofs.late_cells.Goals as goal
 
 pub modal-requires : goal.modal-requires

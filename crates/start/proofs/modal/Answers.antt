@@ -1,14 +1,10 @@
--- `start::modal` meets its contract. What is written and what the rest of the chain starts with are the whole. Assumes nothing.
-use mathlib.Core.Path.{◌≡◌, refl, ap, ◌∙◌}
-use mathlib.Core.List.{◌++◌}
-use Prim.Native.Nat.{◌+◌, ◌*◌, ◌≤◌, ◌<◌}
+use mathlib.Core.Path.{refl, ap, ◌∙◌}
+use Prim.Native.Nat.{◌+◌, ◌*◌, ◌≤◌}
 use native.Mathlib.Omega.{arith}
-use lib.ListN.{length, take, length-take, length-drop}
+use lib.ListN.{length, length-take, length-drop}
 use Rattle.sheet.specs.Laws.{rest}
-use Rattle.sheet.specs.Tree.{records, spine}
 use Rattle.layout.specs.Counts.{walk_turn, walk-done, walk-most}
-use Rattle.start.specs.Cells.{chain_start, mode-length, mode-back, mode-is, modal-turn, modal-end}
-use borrow.Author.Rules.{rules}
+use Rattle.start.specs.Cells.{mode-length, mode-back, mode-is, modal-turn, modal-end}
 use Rattle.start.proofs.modal.Goals as goal
 
 pub loop-j-init : goal.loop-j-init
@@ -53,36 +49,3 @@ returns c =
     let l = c.loop-j in
     let z = c.loop-j-test.false in
     modal-end c.args.sheet.now c.args.count c.requires.0 l.j z l.own l.at (omega (arith, walk-done c.args.sheet.now c.args.count c.requires.0 l.j z)) _ l.invariant.4
-
-pub overflow_mul-a : goal.overflow_mul-a
-overflow_mul-a c = omega arith
-
-pub overflow_add-a : goal.overflow_add-a
-overflow_add-a c = omega arith
-
-pub overflow_add-e : goal.overflow_add-e
-overflow_add-e c = omega arith
-
-pub slice_bounds-mode-count : goal.slice_bounds-mode-count
-slice_bounds-mode-count c = omega arith
-
-pub slice_bounds-mode-start : goal.slice_bounds-mode-start
-slice_bounds-mode-start c = omega arith
-
-pub slice_bounds-mode-end : goal.slice_bounds-mode-end
-slice_bounds-mode-end c = omega arith
-
-pub offset_bounds-own-at : goal.offset_bounds-own-at
-offset_bounds-own-at c = omega arith
-
-pub slice_bounds-mode-count-in-loop-j : goal.slice_bounds-mode-count-in-loop-j
-slice_bounds-mode-count-in-loop-j c = omega arith
-
-pub slice_bounds-mode-start-in-loop-j : goal.slice_bounds-mode-start-in-loop-j
-slice_bounds-mode-start-in-loop-j c = omega arith
-
-pub offset_bounds-nexts-j : goal.offset_bounds-nexts-j
-offset_bounds-nexts-j c = omega arith
-
-pub bounds-nexts-j : goal.bounds-nexts-j
-bounds-nexts-j c = omega arith

@@ -1,14 +1,9 @@
--- `start::modal` meets its contract. What is written and what the rest of the chain starts with are the whole. Assumes nothing.
-use mathlib.Core.Path.{◌≡◌, refl, ap, ◌∙◌}
+use mathlib.Core.Path.{◌≡◌}
 use mathlib.Core.List.{◌++◌}
 use Prim.Native.Nat.{◌+◌, ◌*◌, ◌≤◌, ◌<◌}
-use native.Mathlib.Omega.{arith}
-use lib.ListN.{length, take, length-take, length-drop}
-use Rattle.sheet.specs.Laws.{rest}
+use lib.ListN.{length, take}
 use Rattle.sheet.specs.Tree.{records, spine}
-use Rattle.layout.specs.Counts.{walk_turn, walk-done, walk-most}
-use Rattle.start.specs.Cells.{chain_start, mode-length, mode-back, mode-is, modal-turn, modal-end}
-use borrow.Author.Rules.{rules}
+use Rattle.start.specs.Cells.{chain_start}
 use Rattle.start.proofs.modal.Given as goal
 
 abbrev pub invariant-loop-j : goal.invariant-loop-j

@@ -1,5 +1,4 @@
--- `start::registers` meets its contract. By the kind. Assumes nothing.
-use mathlib.Core.Path.{◌≡◌, sym, ap, ◌∙◌}
+use mathlib.Core.Path.{sym, ap, ◌∙◌}
 use mathlib.Core.List.{[], ◌∷◌}
 use Prim.Native.Nat.{◌+◌, ◌*◌}
 use lib.ListN.{replicate}
@@ -8,7 +7,6 @@ use Rattle.sheet.specs.Laws.{rest}
 use Rattle.layout.specs.Needs.{need_of, registers_by}
 use Rattle.unit.specs.Start.{rand_word, start_registers}
 use Rattle.start.specs.Cells.{record-room, other-registers}
-use borrow.Author.Rules.{rules}
 use Rattle.start.proofs.registers.Goals as goal
 
 pub seed_register-requires : goal.seed_register-requires
@@ -45,5 +43,5 @@ returns-in-46 c =
 pub returns-in_default : goal.returns-in_default
 returns-in_default c =
     let n = c.in_default.in_default-own.rest in
-    c.zero_words.ensures ∙ ap (λ n. replicate n 0) c.requires.4
+    c.fill.ensures.after (λ y h. h) ∙ ap (λ n. replicate n 0) c.requires.4
     ∙ sym (other-registers c.args.sheet.now c.args.i c.requires.3 (λ e. n.0.0.1 (c.requires.1 ∙ e)) (λ e. n.0.1 (c.requires.1 ∙ e)) (λ e. n.1 (c.requires.1 ∙ e)))

@@ -1,8 +1,6 @@
--- `start::seed_register` meets its contract. One word. Assumes nothing.
 use mathlib.Core.Path.{ap, ◌∙◌}
 use mathlib.Core.List.{[], ◌∷◌}
 use Rattle.tree.specs.Lists.{one-stored}
-use borrow.Author.Rules.{rules}
 use Rattle.start.proofs.seed_register.Goals as goal
 
 pub returns : goal.returns

@@ -1,8 +1,6 @@
--- `start_values::compress` meets its contract. The envelope 0, then what is worked out once. Assumes nothing.
 use native.Mathlib.Omega.{arith}
 use lib.ListN.{length-set}
 use Rattle.start_values.specs.Written.{zeroed}
-use borrow.Author.Rules.{rules}
 use Rattle.start_values.proofs.compress.Goals as goal
 
 pub bounds-own-3 : goal.bounds-own-3

@@ -1,7 +1,5 @@
--- `start_values::detuned` meets its contract. By cases. Assumes nothing.
 use borrow.Author.Tests.{eq-eqb, ne_eqb}
 use Rattle.unit.specs.Start.{detune}
-use borrow.Author.Rules.{rules}
 use Rattle.start_values.proofs.detuned.Goals as goal
 
 pub returns-then-n-eq1 : goal.returns-then-n-eq1

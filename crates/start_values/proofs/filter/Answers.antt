@@ -1,6 +1,4 @@
--- `start_values::filter` meets its contract. Eleven cells, of which two are not 0. Assumes nothing.
 use Rattle.start_values.specs.Written.{quiet-nan, zeroed}
-use borrow.Author.Rules.{rules}
 use Rattle.start_values.proofs.filter.Goals as goal
 
 pub returns : goal.returns

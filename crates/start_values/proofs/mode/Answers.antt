@@ -1,8 +1,6 @@
--- `start_values::mode` meets its contract. The coefficients, then a state of zeros. Assumes nothing.
 use native.Mathlib.Omega.{arith}
 use lib.ListN.{length-set}
 use Rattle.start_values.specs.Written.{zeroed}
-use borrow.Author.Rules.{rules}
 use Rattle.start_values.proofs.mode.Goals as goal
 
 pub bounds-own-2 : goal.bounds-own-2

@@ -1,5 +1,3 @@
--- `start_values::phase` meets its contract. A quotient of two conversions. Assumes nothing.
-use borrow.Author.Rules.{rules}
 use Rattle.start_values.proofs.phase.Goals as goal
 
 pub returns : goal.returns

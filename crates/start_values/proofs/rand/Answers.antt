@@ -1,6 +1,4 @@
--- `start_values::rand` meets its contract. The two draws and the phase 0. Assumes nothing.
 use Rattle.start_values.specs.Written.{zeroed}
-use borrow.Author.Rules.{rules}
 use Rattle.start_values.proofs.rand.Goals as goal
 
 pub returns : goal.returns

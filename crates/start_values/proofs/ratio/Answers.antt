@@ -1,6 +1,4 @@
--- `start_values::ratio` meets its contract. As its definition. Assumes nothing.
 use Rattle.unit.specs.Start.{start_ratio}
-use borrow.Author.Rules.{rules}
 use Rattle.start_values.proofs.ratio.Goals as goal
 
 pub returns : goal.returns

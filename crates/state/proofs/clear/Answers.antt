@@ -5,7 +5,6 @@ use lib.ListN.{take, drop, replicate}
 use lib.Seq.{length-take-le}
 use Rattle.tree.specs.Lists.{map-const}
 use Rattle.unit.specs.Own.{silence}
-use borrow.Author.Rules.{rules}
 use Rattle.state.proofs.clear.Goals as goal
 
 pub slice_bounds-fill_block-end-2 : goal.slice_bounds-fill_block-end-2

@@ -4,7 +4,6 @@ use borrow.Author.Tests.{le-leb, lt-leb}
 use lib.ListN.{length-set}
 use Rattle.layout.specs.Tables.{code-unbuilt, code-built}
 use Rattle.start_values.specs.Written.{quiet-nan}
-use borrow.Author.Rules.{rules}
 use Rattle.state.proofs.scale.Goals as goal
 
 pub returns-then-act-lt2 : goal.returns-then-act-lt2

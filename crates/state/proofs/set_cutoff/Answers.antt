@@ -1,13 +1,11 @@
--- `state::set_cutoff` meets its contract. The records below i are scaled. Assumes nothing.
 use mathlib.Core.Path.{◌≡◌, refl, ap, ◌∙◌}
-use Prim.Native.Nat.{◌-◌, ◌+◌, ◌≤◌}
+use Prim.Native.Nat.{◌+◌}
 use native.Mathlib.Omega.{arith}
 use lib.ListN.{length, get_or}
 use Rattle.sheet.specs.Record.{count_of}
 use Rattle.machine.specs.Machine.{scaled}
 use Rattle.machine.proofs.Laws.{scaled-length}
 use Rattle.rings.specs.Parts.{scaled-none, scaled-turn, filter-room}
-use borrow.Author.Rules.{rules}
 use Rattle.state.proofs.set_cutoff.Goals as goal
 
 pub loop-i-init : goal.loop-i-init

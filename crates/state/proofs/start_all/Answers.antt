@@ -4,7 +4,6 @@ use mathlib.Core.List.{◌++◌}
 use lib.ListN.{drop}
 use Rattle.layout.specs.Needs.{cells_from, registers_from}
 use Rattle.machine.specs.Build.{started_cells, started_registers}
-use borrow.Author.Rules.{rules}
 use Rattle.state.proofs.start_all.Goals as goal
 
 pub cells-requires : goal.cells-requires

@@ -1,60 +1,51 @@
--- `streaming::run` meets its contract. Assumes nothing.
 use mathlib.Core.Path.{◌≡◌, refl, sym, ap, ◌∙◌}
 use Prim.Native.Nat.{ℕ, ◌-◌, ◌+◌, ◌≤◌, ◌<◌}
 use native.Mathlib.Omega.{arith}
 use lib.ListN.{length, take, drop, length-drop, length-append}
 use lib.Seq.{length-take-le}
-use Rattle.streaming.specs.Run.{Running, run-start, run-turn, run_end, set_same}
+use Rattle.streaming.specs.Run.{Running, run-start, run-turn, run_end}
 use borrow.Author.Rules.{rules}
 use Rattle.streaming.proofs.run.Goals as goal
 
--- src/lib.rt:133:5
 pub loop-d-init : goal.loop-d-init
 loop-d-init c = (run-start _ _ _ _ _ _ c.requires.1, refl, refl, refl)
 
--- src/lib.rt:148:13
 pub slice_bounds-block-end-in-loop-d : goal.slice_bounds-block-end-in-loop-d
 slice_bounds-block-end-in-loop-d c = let l = c.loop-d in
     let r = l.invariant.0 in
     let m = c.chunk-m.result in
     omega (arith, l.invariant.1, c.requires.2.enough m c.chunk-m.ensures.1 (omega (arith, r.outs, c.chunk-m.ensures.0)))
 
--- src/lib.rt:148:13
 pub slice_bounds-block-end-in-loop-d-2 : goal.slice_bounds-block-end-in-loop-d-2
 slice_bounds-block-end-in-loop-d-2 c = let l = c.loop-d in
     let r = l.invariant.0 in
     let m = c.chunk-m.result in
     sym (length-take-le m l.v (omega (arith, l.invariant.1, c.requires.2.enough m c.chunk-m.ensures.1 (omega (arith, r.outs, c.chunk-m.ensures.0)))))
 
--- src/lib.rt:149:13
 pub slice_bounds-block-end-in-loop-d-3 : goal.slice_bounds-block-end-in-loop-d-3
 slice_bounds-block-end-in-loop-d-3 c = let l = c.loop-d in
     let r = l.invariant.0 in
     let m = c.chunk-m.result in
     omega (arith, l.invariant.2, c.requires.3.enough m c.chunk-m.ensures.1 (omega (arith, r.outs, c.chunk-m.ensures.0)))
 
--- src/lib.rt:149:13
 pub slice_bounds-block-end-in-loop-d-4 : goal.slice_bounds-block-end-in-loop-d-4
 slice_bounds-block-end-in-loop-d-4 c = let l = c.loop-d in
     let r = l.invariant.0 in
     let m = c.chunk-m.result in
     sym (length-take-le m l.w (omega (arith, l.invariant.2, c.requires.3.enough m c.chunk-m.ensures.1 (omega (arith, r.outs, c.chunk-m.ensures.0)))))
 
--- src/lib.rt:150:13
 pub slice_bounds-block-end-in-loop-d-5 : goal.slice_bounds-block-end-in-loop-d-5
 slice_bounds-block-end-in-loop-d-5 c = let l = c.loop-d in
     let r = l.invariant.0 in
     let m = c.chunk-m.result in
     omega (arith, l.invariant.3, c.requires.4.enough m c.chunk-m.ensures.1 (omega (arith, r.outs, c.chunk-m.ensures.0)))
 
--- src/lib.rt:150:13
 pub slice_bounds-block-end-in-loop-d-6 : goal.slice_bounds-block-end-in-loop-d-6
 slice_bounds-block-end-in-loop-d-6 c = let l = c.loop-d in
     let r = l.invariant.0 in
     let m = c.chunk-m.result in
     sym (length-take-le m l.pitch (omega (arith, l.invariant.3, c.requires.4.enough m c.chunk-m.ensures.1 (omega (arith, r.outs, c.chunk-m.ensures.0)))))
 
--- src/lib.rt:136:9
 pub block-c-requires : goal.block-c-requires
 block-c-requires c = let l = c.loop-d in
     let r = l.invariant.0 in
@@ -65,9 +56,8 @@ block-c-requires c = let l = c.loop-d in
     let lv = length-take-le m l.v (omega (arith, l.invariant.1, c.requires.2.enough m c.chunk-m.ensures.1 (omega (arith, r.outs, c.chunk-m.ensures.0)))) in
     let lw = length-take-le m l.w (omega (arith, l.invariant.2, c.requires.3.enough m c.chunk-m.ensures.1 (omega (arith, r.outs, c.chunk-m.ensures.0)))) in
     let lp = length-take-le m l.pitch (omega (arith, l.invariant.3, c.requires.4.enough m c.chunk-m.ensures.1 (omega (arith, r.outs, c.chunk-m.ensures.0)))) in
-    rw (z, lo) (set_same c.requires.0 r.scr, r.sound, c.chunk-m.ensures.1, lv, lw, lp, omega (arith, r.at_position, r.bound, r.outs, c.requires.5, c.chunk-m.ensures.0))
+    rw (z, lo) (omega (arith, c.requires.0, r.scr), r.sound, c.chunk-m.ensures.1, lv, lw, lp, omega (arith, r.at_position, r.bound, r.outs, c.requires.5, c.chunk-m.ensures.0))
 
--- src/lib.rt:133:5
 pub loop-d-smaller : goal.loop-d-smaller
 loop-d-smaller c = let l = c.loop-d in
     let r = l.invariant.0 in
@@ -75,7 +65,6 @@ loop-d-smaller c = let l = c.loop-d in
     let p : 0 < length l.out - l.d = omega (arith, t) in
     omega (arith, c.chunk-m.ensures.0, c.chunk-m.ensures.2 p, r.outs, r.bound)
 
--- src/lib.rt:133:5
 pub loop-d-preserved : goal.loop-d-preserved
 loop-d-preserved c = let l = c.loop-d in
     let r = l.invariant.0 in
@@ -93,7 +82,6 @@ loop-d-preserved c = let l = c.loop-d in
       simp (length-append, length-drop) (omega (arith, c.block-c.auto.pitch, lp, l.invariant.3, c.requires.4.enough m c.chunk-m.ensures.1 (omega (arith, r.outs, c.chunk-m.ensures.0)))),
     )
 
--- src/lib.rt:109:1
 pub returns : goal.returns
 returns c = let l = c.loop-d in
     run_end _ _ _ _ _ _ _ _ _ _ _ l.d l.invariant.0 (omega (arith, l.invariant.0.outs))

@@ -1,13 +1,8 @@
--- `super_block::super_block` meets its contract. Assumes nothing.
-use mathlib.Core.Path.{◌≡◌, refl, ap, ◌∙◌}
-use Prim.Native.Nat.{◌-◌, ◌*◌, ◌+◌, ◌≤◌}
-use native.Mathlib.Nat.{le_refl}
+use Rattle.std.proofs.Common.{refl, ap, ◌∙◌, Float, rules}
+use Rattle.std.specs.Float.{nan}
 use native.Mathlib.Omega.{arith}
-use lib.ListN.{length}
-use lib.Ieee.{Float, nan}
-use borrow.Author.Rules.{rules}
-use Rattle.block.specs.Loop.{Going, going_start, going-turn, going_end}
-use Rattle.float.specs.Single.{◌⊕◌, ◌⊗◌, ◌⊘◌, one}
+use Rattle.block.specs.Loop.{going_start, going-turn, going_end}
+use Rattle.float.specs.Single.{◌⊗◌, ◌⊘◌, one}
 use Rattle.super_block.specs.Super as bank
 use Rattle.super_block.specs.Super.{super_of, super_step}
 use Rattle.super_block.proofs.super_block.Goals as goal
@@ -21,8 +16,8 @@ loop-k-preserved c =
     let l = c.loop-k in
     let u = c.u64_to_f32-scale in
     let a = c.args in
-    let v = c.voices-sum.ensures in
-    let e = v.0 ∙ ap (λ (f : Float). bank.voices a.wave f a.srf a.n l.cells a.n) c.hertz_of.ensures in (
+    let v = c.voices.ensures in
+    let e = v.0 ∙ ap (λ (f : Float). bank.voices a.wave f a.w.srf a.n l.cells a.n) (search rules) in (
       going-turn nan _ _ _ l.invariant.0 (omega arith) (λ i. (e i).0 ⊗ (one ⊘ u.ensures i)) (λ i. (e i).1),
       v.1 ∙ l.invariant.1,
     )

@@ -1,28 +1,20 @@
--- `super_block::voices` meets its contract. Assumes nothing.
-use mathlib.Core.Path.{◌≡◌, refl, ap, ◌∙◌}
-use Prim.Native.Nat.{◌-◌, ◌*◌, ◌+◌, ◌≤◌}
+use Rattle.std.proofs.Common.{◌≡◌, refl, ap, ◌∙◌, Float, length-set, set}
 use native.Mathlib.Omega.{arith}
-use lib.ListN.{length, set, length-set}
-use lib.Ieee.{Float}
-use borrow.Author.Rules.{rules}
 use Rattle.float.specs.Single.{◌⊕◌}
-use Rattle.source.specs.declared.Phased.{Phased}
 use Rattle.block.specs.Bank.{units, units-turn}
-use Rattle.super_block.specs.Super as bank
 use Rattle.super_block.specs.Super.{voice_at}
 use Rattle.super_block.proofs.voices.Goals as goal
 
 pub loop-k-init : goal.loop-k-init
 unfolding units
-loop-k-init c = (refl, refl, omega arith)
+loop-k-init c = (refl, refl)
 
 pub loop-k-preserved : goal.loop-k-preserved
 unfolding voice_at
 loop-k-preserved c =
     let l = c.loop-k in (
-      units-turn _ _ l.invariant.0 (ap (λ (v : Phased). (l.sum ⊕ v.out, set l.cells l.k v.phase)) c.super_voice-v.ensures),
-      length-set l.cells l.k c.super_voice-v.result.phase ∙ l.invariant.1,
-      omega arith,
+      units-turn _ _ l.invariant.0 (ap (λ (v : Float × Float). (l.sum ⊕ v.0, set l.cells l.k v.1)) c.super_voice-y.ensures),
+      length-set l.cells l.k _ ∙ l.invariant.1,
     )
 
 pub returns : goal.returns

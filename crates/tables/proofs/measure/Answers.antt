@@ -1,84 +1,70 @@
--- `tables::measure` meets its contract. Assumes nothing.
-use mathlib.Core.Path.{◌≡◌, sym, ap, ◌∙◌}
-use Prim.Native.Nat.{◌+◌, ◌≤◌, ◌<◌}
-use native.Mathlib.Omega.{arith}
-use lib.ListN.{length}
-use Rattle.sheet.specs.Record.{count_of}
+use Rattle.std.specs.Prelude.{◌≡◌, refl, ℕ, ◌+◌, ◌≤◌, ◌<◌, length}
+use Rattle.std.proofs.Common.{sym, ap, ◌∙◌, arith, rules}
+use Rattle.refusal.specs.Refusal.{answer-ok}
+use Rattle.sheet.specs.Record.{count_of, kind, first, next}
 use Rattle.sheet.specs.Checks.{check_of}
 use Rattle.layout.specs.Good.{good}
-use Rattle.layout.specs.Tables.{accept, held}
+use Rattle.layout.specs.Tables.{Passed, Table, accept, held}
 use Rattle.layout.specs.Needs.{cells_from, registers_from, scratch_from}
-use Rattle.tables.specs.Answer.{refused, needed-refused, needed-all}
-use borrow.Author.Rules.{rules}
+use Rattle.tables.specs.Answer.{needed-all}
+use Rattle.tables.proofs.measure.Given as given
 use Rattle.tables.proofs.measure.Goals as goal
+use Rattle.tables.proofs.measure.Goals.{In_ok-check}
 
-pub returns-then-refusal-ne0 : goal.returns-then-refusal-ne0
-returns-then-refusal-ne0 c = let S = c.args.sheet.now in
-    let k = c.check-refusal.ensures in
-    (ap refused k.answer ∙ sym (needed-refused S (λ z. c.if-refusal-ne0.true (k.answer ∙ z))), λ z. absurd (c.if-refusal-ne0.true z))
+passes : (g : given.Over) (c : In_ok-check g) → check_of c.args.sheet.now ≡ 0
+passes g c = sym c.check.ensures.answer ∙ answer-ok c.in_ok-check.was
+
+-- the tables have room for all records
+room : (g : given.Over) (c : In_ok-check g) → count_of c.args.sheet.now ≤ g.row.N
+room g c = let z = good c.args.sheet.now (passes g c) in c.requires.0.enough z.long z.small
 
 pub count-count-requires : goal.count-count-requires
-count-count-requires c = let S = c.args.sheet.now in
-    let k = c.check-refusal.ensures in
-    let e : check_of S ≡ 0 = sym k.answer ∙ c.if-refusal-ne0.false in
-    omega (arith, (good S e).long)
+count-count-requires g c = omega (arith, (good c.args.sheet.now (passes g (goal.at.count-count-requires g c).In_ok-check)).long)
 
-pub plan-requires : goal.plan-requires
-plan-requires c = let S = c.args.sheet.now in
-    let k = c.check-refusal.ensures in
-    let e : check_of S ≡ 0 = sym k.answer ∙ c.if-refusal-ne0.false in
+pub plan-requires-clause-passed : goal.plan-requires-clause-passed
+plan-requires-clause-passed g c =
     let n = c.count-count.ensures.0 in
-    let w = accept S c.count-count.result e n in
-    let g = good S e in
-    let m : count_of S ≤ length c.args.kinds.now = c.requires.0.enough g.long g.small in
-    let t = held (k.tables c.if-refusal-ne0.false) c.count-count.result n (omega (arith, m, n, c.check-refusal.auto.kinds)) (omega (arith, m, n, c.requires.1, c.check-refusal.auto.first)) (omega (arith, m, n, c.requires.2, c.check-refusal.auto.next)) in record { passed = (w, t.0, t.1, t.2); count_in_bounds = (omega (arith, m, n, c.requires.7), omega (arith, m, n, c.requires.3), omega (arith, m, n, c.requires.8), omega (arith, m, n, c.requires.4), omega (arith, m, n, c.requires.5), omega (arith, m, n, c.requires.6)) }
+    let m = room g (goal.at.plan-requires-clause-passed g c).In_ok-check in
+    let t = held (c.check.ensures.tables (answer-ok c.in_ok-check.was)) c.count-count.result n (omega (arith, m, n, c.check.auto.kinds)) (omega (arith, m, n, c.check.auto.first)) (omega (arith, m, n, c.check.auto.next)) in
+    (accept c.args.sheet.now c.count-count.result (passes g (goal.at.plan-requires-clause-passed g c).In_ok-check) n, t.0, t.1, t.2)
 
-pub offsets-n-requires : goal.offsets-n-requires
-offsets-n-requires c = let S = c.args.sheet.now in
-    let k = c.check-refusal.ensures in
-    let e : check_of S ≡ 0 = sym k.answer ∙ c.if-refusal-ne0.false in
+pub plan-requires-clause-count_in_bounds : goal.plan-requires-clause-count_in_bounds
+plan-requires-clause-count_in_bounds g c =
+    let d = (goal.at.plan-requires-clause-count_in_bounds g c).In_ok-check in
     let n = c.count-count.ensures.0 in
-    let w = accept S c.count-count.result e n in
-    let g = good S e in
-    let m : count_of S ≤ length c.args.kinds.now = c.requires.0.enough g.long g.small in
-    let t = held (k.tables c.if-refusal-ne0.false) c.count-count.result n (omega (arith, m, n, c.check-refusal.auto.kinds)) (omega (arith, m, n, c.requires.1, c.check-refusal.auto.first)) (omega (arith, m, n, c.requires.2, c.check-refusal.auto.next)) in
-    (w, t.0, t.1, t.2, c.plan.ensures.0, omega (arith, m, n, c.requires.7, c.plan.auto.owned), omega (arith, m, n, c.requires.8, c.plan.auto.froms), omega (arith, m, n, c.requires.9))
+    let m = room g d in
+    (omega (arith, m, n), omega (arith, m, n), omega (arith, m, n), omega (arith, m, n), omega (arith, m, n), omega (arith, m, n))
 
-pub shape_of-kinds : goal.shape_of-kinds
-shape_of-kinds c = c.check-refusal.auto.kinds
-
-pub shape_of-firsts : goal.shape_of-firsts
-shape_of-firsts c = c.check-refusal.auto.first
-
-pub shape_of-nexts : goal.shape_of-nexts
-shape_of-nexts c = c.check-refusal.auto.next
-
-pub shape_of-places : goal.shape_of-places
-shape_of-places c = c.offsets-n.auto.places ∙ c.plan.auto.owned
-
-pub shape_of-words : goal.shape_of-words
-shape_of-words c = c.offsets-n.auto.words ∙ c.plan.auto.froms
-
-pub returns : goal.returns
-returns c = let S = c.args.sheet.now in
-    let k = c.check-refusal.ensures in
-    let e : check_of S ≡ 0 = sym k.answer ∙ c.if-refusal-ne0.false in
+pub offsets-needs-requires : goal.offsets-needs-requires
+offsets-needs-requires g c =
+    let d = (goal.at.offsets-needs-requires g c).In_ok-check in
     let n = c.count-count.ensures.0 in
-    let w = accept S c.count-count.result e n in
-    let g = good S e in
-    let m : count_of S ≤ length c.args.kinds.now = c.requires.0.enough g.long g.small in
-    let t = held (k.tables c.if-refusal-ne0.false) c.count-count.result n (omega (arith, m, n, c.check-refusal.auto.kinds)) (omega (arith, m, n, c.requires.1, c.check-refusal.auto.first)) (omega (arith, m, n, c.requires.2, c.check-refusal.auto.next)) in
-    let o = c.offsets-n.ensures in (
-      rw (c.if-refusal-ne0.false, o.cells_all ∙ ap (cells_from S) n, o.registers_all ∙ ap (registers_from S) n, o.scratch_all ∙ ap (scratch_from S) n, needed-all S e),
-      λ z. record {
-        passed = w;
-        first_at = t.1;
-        next_at = t.2;
-        act_at = c.plan.ensures.0;
-        begin_at = c.plan.ensures.1;
-        after_at = c.plan.ensures.2;
-        cells_at = o.cells_at;
-        registers_at = o.registers_at;
-        scratch_at = o.scratch_at;
-      },
-    )
+    let m = room g d in
+    let t = held (c.check.ensures.tables (answer-ok c.in_ok-check.was)) c.count-count.result n (omega (arith, m, n, c.check.auto.kinds)) (omega (arith, m, n, c.check.auto.first)) (omega (arith, m, n, c.check.auto.next)) in
+    (accept c.args.sheet.now c.count-count.result (passes g d) n, t.0, t.1, t.2, c.plan.ensures.0, omega (arith, m, n, c.plan.auto.owned), omega (arith, m, n, c.plan.auto.froms), omega (arith, m, n))
+
+pub returns-clause-needs : goal.returns-clause-needs
+returns-clause-needs g c =
+    let n = c.count-count.ensures.0 in
+    let S = c.args.sheet.now in
+    let o = c.offsets-needs.ensures in
+    rw (o.cells_all ∙ ap (cells_from S) n, o.registers_all ∙ ap (registers_from S) n, o.scratch_all ∙ ap (scratch_from S) n, needed-all S (passes g (goal.at.returns-clause-needs g c).In_ok-check)) refl
+
+pub returns-clause-made : goal.returns-clause-made
+returns-clause-made g c =
+    let d = (goal.at.returns-clause-made g c).In_ok-check in
+    let n = c.count-count.ensures.0 in
+    let m = room g d in
+    let t = held (c.check.ensures.tables (answer-ok c.in_ok-check.was)) c.count-count.result n (omega (arith, m, n, c.check.auto.kinds)) (omega (arith, m, n, c.check.auto.first)) (omega (arith, m, n, c.check.auto.next)) in
+    let o = c.offsets-needs.ensures in
+    record {
+      passed = accept c.args.sheet.now c.count-count.result (passes g d) n;
+      first_at = t.1;
+      next_at = t.2;
+      act_at = c.plan.ensures.0;
+      begin_at = c.plan.ensures.1;
+      after_at = c.plan.ensures.2;
+      cells_at = o.cells_at;
+      registers_at = o.registers_at;
+      scratch_at = o.scratch_at;
+    }

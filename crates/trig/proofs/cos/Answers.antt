@@ -1,5 +1,3 @@
--- `trig::cos` meets its contract. Assumes nothing.
-use borrow.Author.Rules.{rules}
 use Rattle.trig.specs.Trig.{cos_of}
 use Rattle.trig.proofs.cos.Goals as goal
 

@@ -1,4 +1,3 @@
--- `trig::cos_poly` meets its contract: the definition is the code's own arithmetic. Assumes nothing.
 use mathlib.Core.Path.{refl}
 use Rattle.double.specs.Double.{horner}
 use Rattle.trig.specs.Trig.{cos_poly}

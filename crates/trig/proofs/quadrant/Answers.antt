@@ -1,4 +1,3 @@
--- `trig::quadrant` meets its contract: the last two binary digits of q in two's complement are q modulo 4. Assumes nothing.
 use mathlib.Core.Path.{◌≡◌, refl, sym, ap, ◌∙◌, subst}
 use Prim.Native.Nat.{ℕ, suc, ◌-◌, ◌%◌, ◌^◌, ◌<◌}
 use native.Mathlib.Nat.{lt_of_lt_of_le, mod-lt}

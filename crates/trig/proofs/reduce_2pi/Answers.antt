@@ -1,8 +1,5 @@
--- `trig::reduce_2pi` meets its contract. Assumes nothing.
-use mathlib.Core.Path.{◌≡◌, sym, ap, ◌∙◌}
-use lib.Ieee.{Float, binary64, mul}
+use lib.Ieee.{binary64, mul}
 use lib.Ieee.Fits.{mul-fits}
-use borrow.Author.Rules.{rules}
 use Rattle.ieee.proofs.Tests.{yes, no, zero-64}
 use Rattle.trig.specs.Trig.{inv_pi2, reduce2pi}
 use Rattle.trig.proofs.Quarter.{halves-1, halves-3, int-1, round-0, round-1}

@@ -1,6 +1,4 @@
--- `trig::sin` meets its contract. Assumes nothing.
 use Rattle.trig.specs.Trig.{sin_of}
-use borrow.Author.Rules.{rules}
 use Rattle.trig.proofs.sin.Goals as goal
 
 pub returns : goal.returns

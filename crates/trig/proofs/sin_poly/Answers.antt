@@ -1,4 +1,3 @@
--- `trig::sin_poly` meets its contract: the definition is the code's own arithmetic. Assumes nothing.
 use mathlib.Core.Path.{refl}
 use Rattle.double.specs.Double.{horner}
 use Rattle.trig.specs.Trig.{sin_poly}

@@ -1,8 +1,6 @@
--- `trig::sin_reduced` meets its contract. Assumes nothing.
-use mathlib.Core.Path.{◌≡◌, sym, ap, ◌∙◌}
-use lib.Ieee.{Float, binary64, div, neg}
+use mathlib.Core.Path.{sym, ap, ◌∙◌}
+use lib.Ieee.{binary64, div, neg}
 use lib.Ieee.Fits.{div-fits}
-use borrow.Author.Rules.{rules}
 use Rattle.ieee.proofs.Tests.{yes, no}
 use Rattle.trig.specs.Trig.{frac_pi2}
 use Rattle.trig.proofs.Quarter.{halves-1, halves-3, halves-5, round-1, round-2, round-below-1, round-below-2, turns-0, turns-1, turns-2, turns-below-1, turns-below-2, sin-0, sin-1, sin-2, sin-below-1, sin-below-2}

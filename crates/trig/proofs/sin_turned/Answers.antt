@@ -1,10 +1,8 @@
--- `trig::sin_turned` meets its contract. Assumes nothing.
 use mathlib.Core.Path.{◌≡◌, sym, ap, ◌∙◌, subst}
 use Prim.Native.Nat.{◌%◌}
 use lib.Ieee.{Float, binary64, div}
 use lib.Ieee.Fits.{div-fits}
 use lib.Ieee.Positive.{num, den}
-use borrow.Author.Rules.{rules}
 use Rattle.trig.specs.Trig.{frac_pi2, quadrant_of}
 use Rattle.double.proofs.Small.{rounded-whole}
 use Rattle.double.proofs.Tests.{cast-read}

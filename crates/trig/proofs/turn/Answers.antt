@@ -1,8 +1,6 @@
--- `trig::turn` meets its contract. Assumes nothing.
 use mathlib.Core.Path.{◌≡◌, refl, ap, ◌∙◌}
 use Prim.Native.Nat.{ℕ, zero, suc}
 use lib.Ieee.{Float, neg}
-use borrow.Author.Rules.{rules}
 use Rattle.trig.specs.Trig.{turned, cos_poly}
 use Rattle.trig.proofs.turn.Goals as goal
 

@@ -1,8 +1,6 @@
--- `unpitched::bounded` meets its contract. Assumes nothing.
 use mathlib.Core.Path.{◌≡◌, refl, sym, ap, ◌∙◌}
 use mathlib.Core.Bool.{Bool, true, false, cond}
-use lib.Ieee.{Float, binary32, lt, neg, of_bits}
-use borrow.Author.Rules.{rules}
+use lib.Ieee.{Float, lt, neg, of_bits}
 use Rattle.float.specs.Order.{clamp_of}
 use Rattle.float.specs.Single.{one}
 use Rattle.unpitched.proofs.bounded.Goals as goal

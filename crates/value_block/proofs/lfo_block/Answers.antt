@@ -1,6 +1,7 @@
--- `value_block::lfo_block` meets its contract. Assumes nothing.
-use borrow.Author.Rules.{rules}
+use Rattle.std.proofs.Common.{rules}
+use Rattle.value_block.specs.Steps.{lfo_step}
 use Rattle.value_block.proofs.lfo_block.Goals as goal
 
-pub returns-in-Sine : goal.returns-in-Sine
-returns-in-Sine c = rw c.in-Sine.is c.lfo_sine.ensures
+pub returns-in_default : goal.returns-in_default
+unfolding lfo_step
+returns-in_default c = (c.run_block.ensures (lfo_step _ _ _) (λ k s r h p. search rules)).0

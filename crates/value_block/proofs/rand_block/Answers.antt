@@ -1,21 +1,7 @@
--- `value_block::rand_block` meets its contract. Assumes nothing.
-use Prim.Native.Nat.{◌-◌}
-use native.Mathlib.Omega.{arith}
-use lib.ListN.{length}
-use lib.Ieee.{nan}
-use Rattle.block.specs.Loop.{Going, going_start, going-turn, going_end}
+use Rattle.std.proofs.Common.{rules}
 use Rattle.value_block.specs.Steps.{rand_step}
-use borrow.Author.Rules.{rules}
 use Rattle.value_block.proofs.rand_block.Goals as goal
 
-pub loop-k-init : goal.loop-k-init
-loop-k-init c = going_start nan _ _ _
-
-pub loop-k-preserved : goal.loop-k-preserved
-unfolding rand_step
-loop-k-preserved c =
-    let l = c.loop-k in
-    going-turn nan _ _ _ l.invariant (omega arith) c.rand_out.ensures c.rand_next-p.ensures
-
 pub returns : goal.returns
-returns c = going_end nan _ _ _ c.loop-k.invariant (omega arith)
+unfolding rand_step
+returns c = c.run_block.ensures (rand_step _ _ _) (λ k s r h p. search rules)

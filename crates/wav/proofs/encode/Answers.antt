@@ -1,41 +1,27 @@
--- `wav::encode` meets its contract. The loop keeps the bytes of the samples so far before what was not written yet. Assumes nothing.
-use mathlib.Core.Path.{◌≡◌, refl, ap, ◌∙◌}
-use mathlib.Core.List.{List, ◌++◌}
-use Prim.Native.Nat.{ℕ, ◌+◌, ◌-◌, ◌*◌, ◌/◌, ◌%◌, ◌≤◌}
-use native.Mathlib.Omega.{arith}
-use lib.ListN.{length, take, drop, set, get_or, length-set}
-use lib.Seq.{lt-length-set, take-length}
-use lib.Ieee.{Float, nan}
-use borrow.Author.Rules.{rules}
-use Rattle.wav.specs.Wav.{pcm16_of, bytes_of}
-use Rattle.wav.proofs.Laws.{bytes-more}
+use Rattle.std.proofs.Common.{◌≡◌, ◌+◌, ◌-◌, ◌*◌, refl, ◌∙◌, ap, ◌++◌, drop, length, get_or, arith}
+use Rattle.std.specs.Float.{nan}
+use borrow.Rule.Slice.PartMut.{put_mid}
+use lib.Seq.{take_all}
+use Rattle.wav.specs.Wav.{little_endian, pcm16_of, bytes_of}
+use Rattle.wav.proofs.Laws.{le-two, bytes-more}
 use Rattle.wav.proofs.encode.Goals as goal
 
 pub loop-k-init : goal.loop-k-init
 unfolding bytes_of
-loop-k-init c = (omega arith, refl, refl)
-
-pub bounds-out-k-in-loop-k : goal.bounds-out-k-in-loop-k
-bounds-out-k-in-loop-k c = lt-length-set c.loop-k.out _ _ (omega arith)
+loop-k-init c = refl
 
 pub loop-k-preserved : goal.loop-k-preserved
 loop-k-preserved c =
     let l = c.loop-k in
     let xs = c.args.samples.now in
-    let ys = c.args.out.now in
-    let x = get_or xs l.k nan in
-    let low : c.low.result ≡ pcm16_of x % 256 = c.low.ensures ∙ ap (λ (n : ℕ). n % 256) c.pcm16-bits.ensures in
-    let high : c.low-in-loop-k.result ≡ pcm16_of x / 256 % 256 = c.low-in-loop-k.ensures ∙ ap (λ (n : ℕ). n / 256 % 256) c.pcm16-bits.ensures in (
-      omega arith,
-      simp length-set l.invariant.1,
-      ap (λ (t : List ℕ). set (set t (2 * l.k) c.low.result) (2 * l.k + 1) c.low-in-loop-k.result) l.invariant.2
-          ∙ bytes-more xs ys l.k _ _ (omega arith) (omega arith) low high,
-    )
+    let room : 2 * l.k + 2 - 2 * l.k ≡ 2 = omega arith in
+    let bytes : c.copy_from_slice.new.self ≡ little_endian 2 (pcm16_of (get_or xs l.k nan))
+    = c.copy_from_slice.ensures.after ∙ c.to_le_bytes.ensures ∙ le-two c.pcm16.result ∙ ap (little_endian 2) c.pcm16.ensures in
+    (λ i. put_mid (2 * l.k) (room i) (l.invariant i) c.copy_from_slice.new.self) ∙ bytes-more xs c.args.out.now _ l.k c.loop-k-test.true bytes
 
 pub returns : goal.returns
 returns c =
     let l = c.loop-k in
     let xs = c.args.samples.now in
-    let ys = c.args.out.now in
-    let e : l.k ≡ length xs = omega arith in
-    l.invariant.2 ∙ (λ i. bytes_of (take (e i) xs) ++ drop (2 * e i) ys) ∙ ap (λ (t : List Float). bytes_of t ++ drop (2 * length xs) ys) (take-length xs)
+    let k : l.k ≡ length xs = omega arith in
+    l.invariant ∙ (λ i. bytes_of (take_all l.k xs c.loop-k-test.false i) ++ drop (2 * k i) c.args.out.now)

@@ -1,5 +1,3 @@
--- `wav::header` meets its contract. Assumes nothing.
-use borrow.Author.Rules.{rules}
 use Rattle.wav.specs.Wav.{little_endian}
 use Rattle.wav.proofs.header.Goals as goal
 

@@ -1,5 +1,4 @@
--- `word::shr` meets its contract. Assumes nothing.
-use Rattle.std.proofs.Common.{◌≡◌, ℕ, ◌^◌, ◌<◌, sym, lt_of_lt_of_le, pow_mono, rules}
+use Rattle.std.proofs.Common.{sym, lt_of_lt_of_le, pow_mono}
 use native.Mathlib.Nat.{div-eq_of_lt}
 use Rattle.word.proofs.shr.Goals as goal
 

@@ -1,12 +1,6 @@
--- `sheet::kinds::class` meets its contract: the table's rule, and zeros past it. Assumes nothing.
-use mathlib.Core.Path.{sym, ◌∙◌}
-use borrow.Author.Rules.{rules}
-use Rattle.sheet.specs.Codes.{classes_table}
-use Rattle.sheet.specs.Table.{past, entry}
+use Rattle.std.proofs.Common.{◌∙◌}
+use Rattle.sheet.specs.Table.{entry}
 use Rattle.sheet.proofs.kinds.class.Goals as goal
 
-pub returns-then-i-lt53 : goal.returns-then-i-lt53
-returns-then-i-lt53 c = rw c.requires (entry c.args.k).class_is
-
-pub returns-else-i-lt53 : goal.returns-else-i-lt53
-returns-else-i-lt53 c = sym (past classes_table c.args.k (search rules) (search rules)) ∙ (entry c.args.k).class_is
+pub returns : goal.returns
+returns c = c.entry.ensures ∙ rw c.requires (entry c.args.k).class_is

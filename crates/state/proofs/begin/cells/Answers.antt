@@ -1,15 +1,12 @@
--- `state::begin::cells` meets its contract. The records below i have their start values, and the rest is as it was. Assumes nothing.
 use mathlib.Core.Path.{◌≡◌, refl, ap, ◌∙◌}
 use mathlib.Core.List.{◌++◌}
-use Prim.Native.Nat.{◌-◌, ◌≤◌}
 use native.Mathlib.Omega.{arith}
-use lib.ListN.{length, drop}
+use lib.ListN.{drop}
 use Rattle.sheet.specs.Checks.{sum}
 use Rattle.layout.specs.Needs.{cells as needed, cells_from}
 use Rattle.machine.specs.Build.{brought_cells, started_cells}
 use Rattle.machine.proofs.Build.{brought-cells}
 use Rattle.rings.specs.Parts.{part_of, part_length, started-turn, joined-none}
-use borrow.Author.Rules.{rules}
 use Rattle.state.proofs.begin.cells.Goals as goal
 
 pub loop-i-init : goal.loop-i-init

@@ -6,7 +6,6 @@ use Rattle.layout.specs.Needs.{cells_by}
 use Rattle.layout.specs.Counts.{cells-built}
 use Rattle.unit.specs.Start.{start_cells}
 use Rattle.rings.specs.Parts.{role-built, role-unbuilt, on-built, not-brought}
-use borrow.Author.Rules.{rules}
 use Rattle.state.proofs.begin.record_cells.Goals as goal
 
 pub returns-then-act-lt2 : goal.returns-then-act-lt2

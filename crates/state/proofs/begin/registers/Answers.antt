@@ -1,15 +1,12 @@
--- `state::begin::registers` meets its contract. The records below i have their start values, and the rest is as it was. Assumes nothing.
 use mathlib.Core.Path.{◌≡◌, refl, ap, ◌∙◌}
 use mathlib.Core.List.{◌++◌}
-use Prim.Native.Nat.{◌-◌, ◌≤◌}
 use native.Mathlib.Omega.{arith}
-use lib.ListN.{length, drop}
+use lib.ListN.{drop}
 use Rattle.sheet.specs.Checks.{sum}
 use Rattle.layout.specs.Needs.{registers as needed, registers_from}
 use Rattle.machine.specs.Build.{brought_registers, started_registers}
 use Rattle.machine.proofs.Build.{brought-registers}
 use Rattle.rings.specs.Parts.{part_of, part_length, started-turn, joined-none}
-use borrow.Author.Rules.{rules}
 use Rattle.state.proofs.begin.registers.Goals as goal
 
 pub loop-i-init : goal.loop-i-init

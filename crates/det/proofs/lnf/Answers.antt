@@ -1,6 +1,0 @@
--- `det::lnf` meets its contract. Assumes nothing.
-use borrow.Author.Rules.{rules}
-use Rattle.det.proofs.lnf.Goals as goal
-
-pub returns : goal.returns
-returns c = rw (c.f64_to_f32.ensures, c.ln.ensures, c.f32_to_f64.ensures)

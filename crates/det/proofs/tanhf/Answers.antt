@@ -1,6 +1,0 @@
--- `det::tanhf` meets its contract. Assumes nothing.
-use borrow.Author.Rules.{rules}
-use Rattle.det.proofs.tanhf.Goals as goal
-
-pub returns : goal.returns
-returns c = rw (c.f64_to_f32.ensures, c.tanh.ensures, c.f32_to_f64.ensures)

@@ -1,6 +1,0 @@
--- `exp::expf` meets its contract. Assumes nothing.
-use borrow.Author.Rules.{rules}
-use Rattle.exp.proofs.expf.Goals as goal
-
-pub returns : goal.returns
-returns c = rw (c.f64_to_f32.ensures, c.exp.ensures, c.f32_to_f64.ensures)

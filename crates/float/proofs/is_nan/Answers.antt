@@ -1,6 +1,0 @@
--- `float::is_nan` meets its contract. Assumes nothing.
-use Rattle.float.proofs.Order.{ne-self}
-use Rattle.float.proofs.is_nan.Goals as goal
-
-pub returns : goal.returns
-returns c = ne-self c.args.x

@@ -1,0 +1,6 @@
+use Rattle.std.proofs.Common.{arith}
+use Rattle.sheet.specs.Accepted.{rows-most}
+use Rattle.player.proofs.cutoff_any.Goals as goal
+
+pub cutoff_by-requires : goal.cutoff_by-requires
+cutoff_by-requires c = (omega arith, (rows-most _ _ (omega arith), omega arith))

@@ -1,0 +1,7 @@
+-- Below i the tables hold the records' kinds and links, and what was found is what the records below i say.
+use Rattle.refusal.specs.Refusal.{answer_of}
+use Rattle.sheet.specs.Decoding.{Read}
+use Rattle.records.proofs.decode.Given as goal
+
+abbrev pub invariant-loop-i : goal.invariant-loop-i
+invariant-loop-i l = Read l.sheet l.initial.kinds l.initial.first l.initial.next l.kinds l.first l.next (answer_of l.found) l.i

@@ -1,7 +1,0 @@
--- `super_block::hertz_of` meets its contract. Assumes nothing.
-use Rattle.ieee.proofs.Tests.{zero-32}
-use borrow.Author.Rules.{rules}
-use Rattle.super_block.proofs.hertz_of.Goals as goal
-
-pub returns : goal.returns
-returns c = rw (c.max0.ensures, zero-32)
