@@ -1,35 +1,28 @@
 // The calls of the player on an accepted sheet, with its tables lent to them.
 #![tactic(auto)]
 
-ghost use Rattle.std.specs.Prelude.{◌≡◌, length};
+ghost use Rattle.std.specs.Prelude.{◌≡◌, ◌≤◌, length};
 ghost use Rattle.refusal.specs.Refusal.{answer_of};
 ghost use Rattle.sheet.specs.Record.{count_of};
-ghost use Rattle.layout.specs.Needs.{scratch_from};
+ghost use Rattle.layout.specs.Needs.{cells_from, registers_from, scratch_from};
 ghost use Rattle.machine.specs.Machine.{sound_ok, room_check};
 ghost use Rattle.tables.specs.Tables.{Made};
 ghost use Rattle.calls.specs.Calls.{controls_of, Fills, Builds};
 
 use control::Controls;
+use plan::Plan;
 use refusal::Refusal;
 use tables::Tables;
 
 // Check 9 does not apply.
-fn sound_ok<const N: usize, const M: usize>(
-    sheet: &[u8],
-    count: usize,
-    t: &Tables<N, M>,
-    scr: usize,
-    c: Controls,
-    cells: &[f32],
-    regs: &[u64],
-) -> bool
-    requires { Made sheet.now count t.now × (room_check sheet.now (length cells.now) (length regs.now) scr ≡ 0) }
-    ensures { result ≡ sound_ok sheet.now c cells.now regs.now }
+fn sound_ok(plan: &Plan<'_>, c: Controls, cells: &[f32], regs: &[u64]) -> bool
+    requires { (cells_from plan.now.sheet.now (count_of plan.now.sheet.now) ≤ length cells.now) × (registers_from plan.now.sheet.now (count_of plan.now.sheet.now) ≤ length regs.now) }
+    ensures { result ≡ sound_ok plan.now.sheet.now c cells.now regs.now }
 {
     if c.position > 4611686018427387904 {
         return false;
     }
-    rings::rings_ok(sheet, count, &t.acts, &t.places, &t.words, cells, regs)
+    rings::rings_ok(plan, cells, regs)
 }
 
 // Checks 9 and 10, and the samples. The needed scratch is left zeroed.
@@ -47,8 +40,11 @@ pub fn play<const N: usize, const M: usize>(
     requires { Made sheet.now count t.now × (room_check sheet.now (length cells.old) (length regs.old) (length scr.old) ≡ 0) × (need ≡ scratch_from sheet.now (count_of sheet.now)) }
     ensures { Fills sheet.now c out.old cells.old regs.old scr.old (answer_of result) (controls_of c result) out.new cells.new regs.new scr.new }
 {
+    let plan = Plan::new(
+        sheet, count, &t.nexts, &t.acts, &t.begins, &t.afters, &t.places, &t.words, &t.blocks,
+    );
     let n = out.len();
-    if !sound_ok(sheet, count, t, scr.len(), c, cells, regs) {
+    if !sound_ok(&plan, c, cells, regs) {
         return Err(Refusal::State);
     }
     if !control::positions_left(c.position, n as u64) {
@@ -57,9 +53,6 @@ pub fn play<const N: usize, const M: usize>(
     if n == 0 {
         return Ok(c);
     }
-    let plan = plan::Plan::new(
-        sheet, count, &t.nexts, &t.acts, &t.begins, &t.afters, &t.places, &t.words, &t.blocks,
-    );
     let r = buffers::run(&plan, c, out, cells, regs, scr);
     state::clear(scr, need); // the next call finds it zeroed
     Ok(r)
@@ -79,11 +72,13 @@ pub fn begin<const N: usize, const M: usize>(
     requires { Made sheet.now count t.now × (room_check sheet.now (length cells.old) (length regs.old) (length scr.old) ≡ 0) × (need ≡ scratch_from sheet.now (count_of sheet.now)) }
     ensures { Builds sheet.now c cells.old regs.old scr.old 0 result cells.new regs.new scr.new }
 {
-    let mut paths = [0u64; 256];
-    paths::paths(sheet, count, &t.firsts, &t.nexts, &mut paths);
-    state::start_all(
-        sheet, count, &t.firsts, &t.nexts, &t.acts, &t.places, &t.words, &paths, cells, regs,
+    let plan = Plan::new(
+        sheet, count, &t.nexts, &t.acts, &t.begins, &t.afters, &t.places, &t.words, &t.blocks,
     );
+    let mut paths = [0u64; 256];
+    // The firsts stay beside the plan: only a start reads them, and each fill would carry them too, so a plan with them is no plainer.
+    paths::paths(sheet, count, &t.firsts, &t.nexts, &mut paths);
+    state::start_all(&plan, &t.firsts, &paths, cells, regs);
     state::clear(scr, need);
     Controls::fresh()
 }

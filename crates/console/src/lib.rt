@@ -9,7 +9,8 @@ ghost use Rattle.console.specs.Hex.{hex};
 use std::io;
 use std::io::{Read, Write};
 
-// Reads until `buf` is full or the input ends, and returns how many bytes came: they stand at the start of `buf`.
+// Reads until `buf` is full or the input ends, and returns how many bytes came: they stand at the start of `buf`. The loop goes on
+// by what a read gave, so it counts no index.
 pub fn read_full<R: Read>(input: &mut R, buf: &mut [u8]) -> io::Result<usize>
     ensures within { IfOk result (λ n. n ≤ length buf.new) }
     ensures bytes { IfOk result (λ n. Consumes (R.remaining input.old) (R.remaining input.new) (take n buf.new)) }

@@ -11,6 +11,7 @@ ghost use Rattle.calls.specs.Calls.{controls_of, Fills, Cuts, Builds};
 
 use control::Controls;
 use offsets::Needs;
+use plan::Plan;
 use refusal::Refusal;
 use tables::Tables;
 
@@ -120,7 +121,10 @@ fn cutoff_by<const N: usize, const M: usize>(
     ensures { Cuts sheet.now x cells.old (length regs.now) (length scr.now) (answer_of result) cells.new }
 {
     let p = prepare::prepare(sheet, cells.len(), regs.len(), scr.len(), t)?;
-    state::set_cutoff(sheet, p.count, &t.acts, &t.places, x, cells);
+    let plan = Plan::new(
+        sheet, p.count, &t.nexts, &t.acts, &t.begins, &t.afters, &t.places, &t.words, &t.blocks,
+    );
+    state::set_cutoff(&plan, x, cells);
     Ok(())
 }
 

@@ -1,17 +1,15 @@
 -- Check 9 as the code makes it: a place of a Reverb, a test that fails, and a record whose kind is not checked.
-use Rattle.std.specs.Prelude.{◌≡◌, refl, Bool, true, false, not, cond, ◌&&◌, List, ◌≢◌, ℕ, zero, suc, ◌≤◌, ◌<◌, ltb, Float}
+use Rattle.std.specs.Prelude.{◌≡◌, refl, Bool, true, false, not, cond, ◌&&◌, List, ◌≢◌, ℕ, zero, suc, ◌<◌, ltb, Float}
 use Rattle.std.proofs.Common.{sym, ap, ap₂, ◌∙◌, arith, ne_eqb}
 use Rattle.std.proofs.Math.Decide.{ℕ_discrete}
 use Rattle.sheet.specs.Record.{kind}
 use Rattle.sheet.specs.Checks.{all}
 use Rattle.block.specs.Iterate.{word}
 use Rattle.unit.specs.Own.{Own}
-use Rattle.layout.specs.Built.{role, is_built}
+use Rattle.layout.specs.Built.{role, built, is_built}
 use Rattle.layout.specs.Needs.{cells, registers, cells_from, registers_from}
-use Rattle.layout.specs.Tables.{role_code}
 use Rattle.tree.specs.Flat.{seg}
 use Rattle.unit.specs.State.{own_ok, record_ok}
-use Rattle.rings.specs.Parts.{on-built}
 
 -- place k is below its line's length
 abbrev pub place_test : List ℕ → List ℕ → ℕ → Bool
@@ -55,6 +53,6 @@ record-unchecked s i k o e h = go (is_built (role s i)) _ (unchecked s i k _ e (
     go false c e = refl
 
 -- a built record, on its part of the cells and the registers
-pub record-checked : (s : List ℕ) (i act : ℕ) (cs xs : List Float) (rs ws : List ℕ) (r : Bool) → act ≡ role_code (role s i) → 2 ≤ act
+pub record-checked : (s : List ℕ) (i : ℕ) (cs xs : List Float) (rs ws : List ℕ) (r : Bool) → role s i ≡ built
     → xs ≡ seg (cells_from s i) (cells s i) cs → ws ≡ seg (registers_from s i) (registers s i) rs → r ≡ own_ok s i (xs, ws) → r ≡ record_ok s (cs, rs) i
-record-checked s i act cs xs rs ws r ea h ex ew e = e ∙ ap₂ (λ xs ws. own_ok s i (xs, ws)) ex ew ∙ sym (on-built s i act ea h _ _)
+record-checked s i cs xs rs ws r b ex ew e = e ∙ ap₂ (λ xs ws. own_ok s i (xs, ws)) ex ew ∙ rw b

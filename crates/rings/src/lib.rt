@@ -1,15 +1,15 @@
 // Check 9 of the cells and registers: ring places lie in their lines, and phases of Rand from 0 to 1.
 #![tactic(auto)]
 
-ghost use Rattle.std.specs.Prelude.{◌≡◌, ◌+◌, ◌≤◌, ◌<◌, length};
+ghost use Rattle.std.specs.Prelude.{◌≡◌, ◌≤◌, ◌<◌, length};
 ghost use Rattle.lines.specs.Lines.{reverb_lines};
-ghost use Rattle.sheet.specs.Record.{rate_of, kind};
+ghost use Rattle.sheet.specs.Record.{rate_of, count_of, kind};
 ghost use Rattle.sheet.specs.Checks.{all};
-ghost use Rattle.layout.specs.Built.{role};
 ghost use Rattle.layout.specs.Needs.{cells_by, registers_by, cells_from, registers_from};
-ghost use Rattle.layout.specs.Tables.{Table, Passed, role_code};
 ghost use Rattle.unit.specs.State.{place_ok, places_ok, phase_ok, own_ok, record_ok, rings_ok};
 ghost use Rattle.rings.specs.Rings.{place_test};
+
+use plan::Plan;
 
 fn places_below(lens: &[u64], words: &[u64]) -> bool
     requires { (length lens.now ≡ 10) × (length words.now ≡ 10) }
@@ -61,48 +61,34 @@ fn own_ok(sheet: &[u8], i: usize, k: u8, own: &[f32], words: &[u64]) -> bool
 }
 
 // Of record i, on its part of all the cells and registers. Kinds below 29 have neither a place nor a phase.
-fn record_ok(
-    sheet: &[u8],
-    count: usize,
-    acts: &[u8],
-    places: &[usize],
-    words: &[usize],
-    cells: &[f32],
-    regs: &[u64],
-    i: usize,
-) -> bool
-    requires { Passed sheet.now count × Table (λ j. role_code (role sheet.now j)) count acts.now × Table (cells_from sheet.now) (count + 1) places.now × Table (registers_from sheet.now) (count + 1) words.now × (cells_from sheet.now count ≤ length cells.now) × (registers_from sheet.now count ≤ length regs.now) × (i < count) }
-    ensures { result ≡ record_ok sheet.now (cells.now, regs.now) i }
+fn record_ok(plan: &Plan<'_>, cells: &[f32], regs: &[u64], i: usize) -> bool
+    requires { (cells_from plan.now.sheet.now (count_of plan.now.sheet.now) ≤ length cells.now) × (registers_from plan.now.sheet.now (count_of plan.now.sheet.now) ≤ length regs.now) × (i < count_of plan.now.sheet.now) }
+    ensures { result ≡ record_ok plan.now.sheet.now (cells.now, regs.now) i }
 {
-    if acts[i] < 2 {
+    let row = plan.row(i);
+    let k = row.kind;
+    if !row.built {
         return true;
     }
-    let k = sheet::kind_at(sheet, i);
     if k < 29 {
         return true;
     }
-    let a = places[i];
-    let e = places[i + 1];
-    let b = words[i];
-    let f = words[i + 1];
-    own_ok(sheet, i, k, &cells[a..e], &regs[b..f])
+    own_ok(
+        plan.sheet,
+        i,
+        k,
+        &cells[row.cells..row.cells_end],
+        &regs[row.registers..row.registers_end],
+    )
 }
 
 // Of all records. It stops at the first record that fails it.
-pub fn rings_ok(
-    sheet: &[u8],
-    count: usize,
-    acts: &[u8],
-    places: &[usize],
-    words: &[usize],
-    cells: &[f32],
-    regs: &[u64],
-) -> bool
-    requires { Passed sheet.now count × Table (λ j. role_code (role sheet.now j)) count acts.now × Table (cells_from sheet.now) (count + 1) places.now × Table (registers_from sheet.now) (count + 1) words.now × (cells_from sheet.now count ≤ length cells.now) × (registers_from sheet.now count ≤ length regs.now) }
-    ensures { result ≡ rings_ok sheet.now (cells.now, regs.now) }
+pub fn rings_ok(plan: &Plan<'_>, cells: &[f32], regs: &[u64]) -> bool
+    requires { (cells_from plan.now.sheet.now (count_of plan.now.sheet.now) ≤ length cells.now) × (registers_from plan.now.sheet.now (count_of plan.now.sheet.now) ≤ length regs.now) }
+    ensures { result ≡ rings_ok plan.now.sheet.now (cells.now, regs.now) }
 {
-    for i in 0..count {
-        if !record_ok(sheet, count, acts, places, words, cells, regs, i) {
+    for i in 0..plan.count {
+        if !record_ok(plan, cells, regs, i) {
             return false;
         }
     }

@@ -3,75 +3,63 @@
 
 mod begin;
 
-ghost use Rattle.std.specs.Prelude.{◌≡◌, cond, ◌&&◌, ◌++◌, ◌+◌, ◌≤◌, length, drop, set, replicate};
+ghost use Rattle.std.specs.Prelude.{◌≡◌, true, cond, ◌&&◌, ◌++◌, ◌+◌, ◌≤◌, length, drop, set, replicate};
 ghost use Rattle.std.specs.Float.{nan};
-ghost use Rattle.sheet.specs.Record.{count_of, first, next};
-ghost use Rattle.layout.specs.Built.{role, is_built};
+ghost use Rattle.sheet.specs.Record.{count_of, first};
 ghost use Rattle.layout.specs.Needs.{cells_from, registers_from};
-ghost use Rattle.layout.specs.Tables.{Table, Passed, role_code, code_role};
+ghost use Rattle.layout.specs.Tables.{Table};
 ghost use Rattle.unit.specs.Own.{silence};
 ghost use Rattle.unit.specs.Start.{path};
 ghost use Rattle.machine.specs.Machine.{is_filter, scaled};
 ghost use Rattle.machine.specs.Build.{started_cells, started_registers};
 
+use plan::{Plan, Row};
+
 // The filters are the kinds 22 to 28.
 const LAST_FILTER: u8 = 28;
 
-// A filter of the role act and the kind k whose cells begin at `at` gets the scale x, and NaN for its last frequency, so that the next sample works out the coefficients.
-fn scale(act: u8, k: u8, at: usize, x: f32, cells: &mut [f32])
-    requires { 2 ≤ act → 22 ≤ k → k ≤ 28 → at + 2 ≤ length cells.old }
-    ensures { cells.new ≡ cond (is_built (code_role act) && is_filter k) (set (set cells.old at x) (at + 1) nan) cells.old }
+// Where the record is a built filter, it gets the scale x, and NaN for its last frequency, so that the next sample works out the coefficients.
+fn scale(row: Row, x: f32, cells: &mut [f32])
+    requires { row.built ≡ true → 22 ≤ row.kind → row.kind ≤ 28 → row.cells + 2 ≤ length cells.old }
+    ensures { cells.new ≡ cond (row.built && is_filter row.kind) (set (set cells.old row.cells x) (row.cells + 1) nan) cells.old }
 {
-    if act < 2 {
-        return;
+    if row.built {
+        let k = row.kind;
+        if k < 22 {
+            return;
+        }
+        if k > LAST_FILTER {
+            return;
+        }
+        let at = row.cells;
+        cells[at] = x;
+        cells[at + 1] = float::from_bits(0x7fc0_0000);
     }
-    if k < 22 {
-        return;
-    }
-    if k > LAST_FILTER {
-        return;
-    }
-    cells[at] = x;
-    cells[at + 1] = float::from_bits(0x7fc0_0000);
 }
 
 // The cutoff move: every built filter.
-pub fn set_cutoff(
-    sheet: &[u8],
-    count: usize,
-    acts: &[u8],
-    places: &[usize],
-    x: f32,
-    cells: &mut [f32],
-)
-    requires { Passed sheet.now count × Table (λ j. role_code (role sheet.now j)) count acts.now × Table (cells_from sheet.now) (count + 1) places.now × (cells_from sheet.now count ≤ length cells.old) }
-    ensures { cells.new ≡ scaled sheet.now x (count_of sheet.now) cells.old }
+pub fn set_cutoff(plan: &Plan<'_>, x: f32, cells: &mut [f32])
+    requires { cells_from plan.now.sheet.now (count_of plan.now.sheet.now) ≤ length cells.old }
+    ensures { cells.new ≡ scaled plan.now.sheet.now x (count_of plan.now.sheet.now) cells.old }
 {
-    for i in 0..count {
-        let k = sheet::kind_at(sheet, i);
-        scale(acts[i], k, places[i], x, cells);
+    for i in 0..plan.count {
+        scale(plan.row(i), x, cells);
     }
 }
 
-// Every record's start values, in all the cells and registers that the sheet needs.
+// Every record's start values, in all the cells and registers that the sheet needs. The plan has no firsts: what plays doesn't read them.
 pub fn start_all(
-    sheet: &[u8],
-    count: usize,
+    plan: &Plan<'_>,
     firsts: &[usize],
-    nexts: &[usize],
-    acts: &[u8],
-    places: &[usize],
-    words: &[usize],
     paths: &[u64],
     cells: &mut [f32],
     regs: &mut [u64],
 )
-    requires passed { Passed sheet.now count × Table (first sheet.now) count firsts.now × Table (next sheet.now) count nexts.now × Table (λ j. role_code (role sheet.now j)) count acts.now }
-    requires table { Table (cells_from sheet.now) (count + 1) places.now × Table (registers_from sheet.now) (count + 1) words.now × Table (path sheet.now) count paths.now × (cells_from sheet.now count ≤ length cells.old) × (registers_from sheet.now count ≤ length regs.old) }
-    ensures { (cells.new ≡ started_cells sheet.now (count_of sheet.now) ++ drop (cells_from sheet.now (count_of sheet.now)) cells.old) × (regs.new ≡ started_registers sheet.now (count_of sheet.now) ++ drop (registers_from sheet.now (count_of sheet.now)) regs.old) }
+    requires { Table (first plan.now.sheet.now) (count_of plan.now.sheet.now) firsts.now × Table (path plan.now.sheet.now) (count_of plan.now.sheet.now) paths.now × (cells_from plan.now.sheet.now (count_of plan.now.sheet.now) ≤ length cells.old) × (registers_from plan.now.sheet.now (count_of plan.now.sheet.now) ≤ length regs.old) }
+    ensures { (cells.new ≡ started_cells plan.now.sheet.now (count_of plan.now.sheet.now) ++ drop (cells_from plan.now.sheet.now (count_of plan.now.sheet.now)) cells.old) × (regs.new ≡ started_registers plan.now.sheet.now (count_of plan.now.sheet.now) ++ drop (registers_from plan.now.sheet.now (count_of plan.now.sheet.now)) regs.old) }
 {
-    begin::cells(sheet, count, firsts, nexts, acts, places, cells);
-    begin::registers(sheet, count, acts, words, paths, regs);
+    begin::cells(plan, firsts, cells);
+    begin::registers(plan, paths, regs);
 }
 
 // The first n are silence.

@@ -84,7 +84,9 @@ impl From<dsl::Slide> for Ease {
 }
 
 impl Ease {
-    // y is the part of the seconds that has passed: beyond 1 the slide stays where it ends.
+    // y is the part of the seconds that has passed: beyond 1 the slide stays where it ends. Both this and `at` are written into the
+    // loop of a block: a call for each sample is slower.
+    #[inline(always)]
     #[tactic(auto, unfolding(float::specs::Order::clamp_of))]
     fn exp_at(self, y: f32) -> f32
         requires { self.slide.curve ≡ Exp }
@@ -100,6 +102,7 @@ impl Ease {
     }
 
     // At x seconds.
+    #[inline(always)]
     #[tactic(auto, unfolding(crate::specs::Modulators::slide_at, crate::specs::Modulators::eased))]
     pub fn at(self, x: f32) -> f32
         ensures { result ≡ slide_at self.slide x }

@@ -124,6 +124,7 @@ fn rand(out: &mut [f32], v: dsl::Rand, srf: f32, cells: &mut [f32], regs: &mut [
 
 // ---- by kind, 41 to 46
 
+// It takes the sheet, the count and the nexts, not a Plan: the C interface needs it, where `block_arp` is lent the nexts and no other table.
 pub fn play(
     sheet: &[u8],
     count: usize,

@@ -161,7 +161,8 @@ pub fn source(
     leaf(plan, i, c, out, v, w, pitch, cells, regs);
 }
 
-// The stages of a Chain from its source stage on: out goes through each. Most are leaves, and are played from here.
+// The stages of a Chain from its source stage on: out goes through each. Most are leaves, and are played from here. The loop goes
+// along links, so it counts no index.
 #[cycle(chain_mix_source)]
 fn chain(
     plan: &Plan<'_>,
@@ -193,7 +194,7 @@ fn chain(
     }
 }
 
-// The inputs of a Mix or a Mul, joined one after another in its own block of scratch.
+// The inputs of a Mix or a Mul, joined one after another in its own block of scratch. The loop goes along links too.
 #[cycle(chain_mix_source)]
 fn mix(
     plan: &Plan<'_>,

@@ -1,5 +1,5 @@
 use Rattle.std.specs.Prelude.{◌≡◌, true, length}
-use Rattle.std.proofs.Common.{sym, ◌∙◌, arith, rules}
+use Rattle.std.proofs.Common.{sym, ◌∙◌, arith}
 use Rattle.control.specs.Moves.{left_for}
 use Rattle.machine.specs.Machine.{sound_ok}
 use Rattle.machine.proofs.Laws.{room-enough, room-passed}
@@ -10,7 +10,7 @@ use Rattle.calls.proofs.play.Goals.{Else-not-sound_ok, Else-not-positions_left}
 
 -- check 9 passed, and check 10
 sound : (g : given.Over) (c : Else-not-sound_ok g) → sound_ok c.args.sheet.now c.args.c c.args.cells.now c.args.regs.now ≡ true
-sound g c = sym c.sound_ok.ensures ∙ c.if-not-sound_ok.false
+sound g c = sym (rw c.new-plan.ensures at c.sound_ok.ensures) ∙ c.if-not-sound_ok.false
 
 left : (g : given.Over) (c : Else-not-positions_left g) → left_for c.args.c.position (length c.args.out.now) ≡ true
 left g c = sym c.positions_left.ensures ∙ c.if-not-positions_left.false
@@ -22,6 +22,11 @@ returns-then-n-eq0 g c =
 
 pub new-plan-requires : goal.new-plan-requires
 new-plan-requires g c = planned_of c.requires.0
+
+pub sound_ok-requires : goal.sound_ok-requires
+sound_ok-requires g c =
+    let r = room-enough c.args.sheet.now _ _ _ (room-passed c.args.sheet.now _ _ _ c.requires.1).1 in
+    rw c.new-plan.ensures (r.cells, r.registers)
 
 pub run-r-requires : goal.run-r-requires
 run-r-requires g c =
@@ -40,7 +45,7 @@ clear-requires g c =
 
 pub returns-then-not-sound_ok : goal.returns-then-not-sound_ok
 returns-then-not-sound_ok g c =
-    fills-unsound c.args.sheet.now c.args.c c.args.out.now c.args.cells.now c.args.regs.now c.args.scr.now c.requires.1 (sym c.sound_ok.ensures ∙ c.if-not-sound_ok.true)
+    fills-unsound c.args.sheet.now c.args.c c.args.out.now c.args.cells.now c.args.regs.now c.args.scr.now c.requires.1 (sym (rw c.new-plan.ensures at c.sound_ok.ensures) ∙ c.if-not-sound_ok.true)
 
 pub returns-then-not-positions_left : goal.returns-then-not-positions_left
 returns-then-not-positions_left g c =

@@ -1,13 +1,10 @@
-use Rattle.std.specs.Prelude.{◌≡◌}
 use Rattle.std.proofs.Common.{sym, ◌∙◌}
 use Rattle.std.proofs.lemmas.Result.{err_from_is_err_and, IfOk-at_ok}
 use Rattle.refusal.specs.Refusal.{answer-ok, answer-err, passed-on}
-use Rattle.sheet.specs.Record.{count_of}
-use Rattle.layout.specs.Needs.{scratch_from}
 use Rattle.tables.specs.Tables.{Made}
 use Rattle.prepare.specs.declared.Ready.{Ready}
 use Rattle.machine.proofs.Laws.{room-enough, room-passed}
-use Rattle.calls.specs.Calls.{cuts-refused, cuts-all}
+use Rattle.calls.specs.Calls.{cuts-refused, cuts-all, planned_of}
 use Rattle.player.proofs.cutoff_by.Goals as goal
 
 pub returns-in_err-p : goal.returns-in_err-p
@@ -15,13 +12,14 @@ returns-in_err-p g c =
     let p = err_from_is_err_and c.from_residual.result c.from_residual.ensures.1 in
     cuts-refused c.args.sheet.now c.args.x _ _ _ _ (answer-err p.1) (passed-on c.in_err-p.was p.1 p.2 ∙ c.prepare.ensures.answer)
 
+pub new-plan-requires : goal.new-plan-requires
+new-plan-requires g c = planned_of (IfOk-at_ok (λ (y : Ready). Made c.args.sheet.now y.count c.prepare.new.t) c.in_ok-p.was c.prepare.ensures.made)
+
 pub set_cutoff-requires : goal.set_cutoff-requires
 set_cutoff-requires g c =
     let p = c.prepare.ensures in
-    let S = c.args.sheet.now in
-    let m = IfOk-at_ok (λ (y : Ready). Made S y.count c.prepare.new.t) c.in_ok-p.was p.made in
-    let r = room-enough S _ _ _ (room-passed S _ _ _ (sym p.answer ∙ answer-ok c.in_ok-p.was)).1 in
-    (m.passed, m.act_at, m.cells_at, rw m.passed.count r.cells)
+    let r = room-enough c.args.sheet.now _ _ _ (room-passed c.args.sheet.now _ _ _ (sym p.answer ∙ answer-ok c.in_ok-p.was)).1 in
+    rw c.new-plan.ensures r.cells
 
 pub returns : goal.returns
-returns g c = cuts-all c.args.sheet.now c.args.x _ _ _ _ (sym c.prepare.ensures.answer ∙ answer-ok c.in_ok-p.was) c.set_cutoff.ensures
+returns g c = cuts-all c.args.sheet.now c.args.x _ _ _ _ (sym c.prepare.ensures.answer ∙ answer-ok c.in_ok-p.was) (rw c.new-plan.ensures at c.set_cutoff.ensures)

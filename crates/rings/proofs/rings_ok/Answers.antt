@@ -13,21 +13,21 @@ unfolding all
 loop-i-init c = (omega arith, refl)
 
 pub record_ok-requires : goal.record_ok-requires
-record_ok-requires c = let p = c.requires in (p.0, p.1, p.2, p.3, p.4, p.5, c.loop-i-test.true)
+record_ok-requires c = (c.requires.0, c.requires.1, omega (arith, c.args.plan.now.made.passed.count, c.loop-i-test.true))
 
 pub returns-then-not-record_ok : goal.returns-then-not-record_ok
 returns-then-not-record_ok c =
-    sym (all-not (record_ok c.args.sheet.now (c.args.cells.now, c.args.regs.now)) (count_of c.args.sheet.now) c.loop-i.i (omega (arith, c.requires.0.count, c.loop-i-test.true))
+    sym (all-not (record_ok c.args.plan.now.sheet.now (c.args.cells.now, c.args.regs.now)) (count_of c.args.plan.now.sheet.now) c.loop-i.i (omega (arith, c.args.plan.now.made.passed.count, c.loop-i-test.true))
     (sym c.record_ok.ensures ∙ c.if-not-record_ok.true))
 
 pub loop-i-preserved : goal.loop-i-preserved
 loop-i-preserved c =
     let s = c.args in
     let l = c.loop-i in
-    (omega arith, all-suc (record_ok s.sheet.now (s.cells.now, s.regs.now)) l.i ∙ ap₂ ◌&&◌ l.invariant.1 (sym c.record_ok.ensures ∙ not-false _ c.if-not-record_ok.false-raw))
+    (omega arith, all-suc (record_ok s.plan.now.sheet.now (s.cells.now, s.regs.now)) l.i ∙ ap₂ ◌&&◌ l.invariant.1 (sym c.record_ok.ensures ∙ not-false _ c.if-not-record_ok.false-raw))
 
 pub returns : goal.returns
 returns c =
     let l = c.loop-i in
-    let e : l.i ≡ count_of c.args.sheet.now = omega (arith, c.requires.0.count) in
-    sym l.invariant.1 ∙ ap (all (record_ok c.args.sheet.now (c.args.cells.now, c.args.regs.now))) e
+    let e : l.i ≡ count_of c.args.plan.now.sheet.now = omega (arith, c.args.plan.now.made.passed.count) in
+    sym l.invariant.1 ∙ ap (all (record_ok c.args.plan.now.sheet.now (c.args.cells.now, c.args.regs.now))) e

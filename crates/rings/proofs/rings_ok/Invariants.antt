@@ -6,4 +6,4 @@ use Rattle.unit.specs.State.{record_ok}
 use Rattle.rings.proofs.rings_ok.Given as goal
 
 abbrev pub invariant-loop-i : goal.invariant-loop-i
-invariant-loop-i l = (l.i ≤ l.count) × (all (record_ok l.sheet (l.cells, l.regs)) l.i ≡ true)
+invariant-loop-i l = (l.i ≤ l.plan.count) × (all (record_ok l.plan.sheet.now (l.cells, l.regs)) l.i ≡ true)

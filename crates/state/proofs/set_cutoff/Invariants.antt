@@ -5,4 +5,4 @@ use Rattle.machine.specs.Machine.{scaled}
 use Rattle.state.proofs.set_cutoff.Given as goal
 
 abbrev pub invariant-loop-i : goal.invariant-loop-i
-invariant-loop-i l = (l.i ≤ l.count) × (length l.cells ≡ length l.initial.cells) × (l.cells ≡ scaled l.sheet l.x l.i l.initial.cells)
+invariant-loop-i l = (l.i ≤ l.plan.count) × (length l.cells ≡ length l.initial.cells) × (l.cells ≡ scaled l.plan.sheet.now l.x l.i l.initial.cells)

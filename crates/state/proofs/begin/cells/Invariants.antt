@@ -7,4 +7,4 @@ use Rattle.machine.specs.Build.{started_cells}
 use Rattle.state.proofs.begin.cells.Given as goal
 
 abbrev pub invariant-loop-i : goal.invariant-loop-i
-invariant-loop-i l = (l.i ≤ l.count) × (length l.cells ≡ length l.initial.cells) × (l.cells ≡ started_cells l.sheet l.i ++ drop (cells_from l.sheet l.i) l.initial.cells)
+invariant-loop-i l = (l.i ≤ l.plan.count) × (length l.cells ≡ length l.initial.cells) × (l.cells ≡ started_cells l.plan.sheet.now l.i ++ drop (cells_from l.plan.sheet.now l.i) l.initial.cells)
