@@ -333,7 +333,7 @@ def loops(src):
             for v in re.findall(r"[a-z_]\w*", m.group(1)):
                 by = re.findall(r"\b" + v + r" [-+]= (\w+);|\b" + v + r" = " + v + r" [-+] (\w+);", body)
                 by += [(x, "") for n in re.findall(r"\b" + v + r" = (\w+);", body) for x in re.findall(r"let " + n + r" = " + v + r" \+ (\w+);", body)]
-                if re.search(r"\b" + v + r" = \w+\[" + v + r"\];", body):
+                if re.search(r"\b" + v + r" = [\w.]+\[" + v + r"\];", body):
                     kind = "links"
                 elif by:
                     kind = "index" if all("".join(x) == "1" for x in by) else "stride"
@@ -470,7 +470,7 @@ def point6(src):
         for p, t in fn.params:
             if p in ("text", "name") and re.fullmatch(r"&\[u8\]", t):
                 yield "text", fn.file, fn.line, f"fn {fn.name}: {p}"
-        if re.search(r"\b(\w+) = \w+\[\1\];", fn.body):
+        if re.search(r"\b(\w+) = [\w.]+\[\1\];", fn.body):
             yield ("arena",) + fn.at()
     for s in src.structs:
         if numbered(s.fields):

@@ -35,7 +35,7 @@ pub struct Amplitude {
     pub root: f32,
 }
 
-// What the filter kernel runs on.
+// What the filter kernel runs on, by the cookbook's names, which an array would lose.
 #[derive(Clone, Copy)]
 pub struct Coefficients {
     pub b0: f32,
@@ -45,7 +45,7 @@ pub struct Coefficients {
     pub a2: f32,
 }
 
-// The cookbook's six.
+// The cookbook's six, flat as its formulas give them: the five above and an a0 beside them would be filled in two places.
 #[derive(Clone, Copy)]
 pub struct Six {
     pub b0: f32,
@@ -69,7 +69,8 @@ fn over_a0(k: Six) -> Coefficients
     }
 }
 
-// The cosine and alpha stay two numbers, as the cookbook's formulas have them: a struct would only lengthen each.
+// The cosine and alpha stay two numbers, beside the amplitude too, as the cookbook's formulas have them: a struct would only lengthen
+// each.
 fn low(cos: f32, alpha: f32) -> Six
     ensures { result ≡ lowpass cos alpha }
 {

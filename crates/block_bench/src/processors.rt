@@ -16,7 +16,7 @@ pub extern "C" fn block_gain(out: &mut [f32], amount: &[f32])
     proc_block::gain_block(out, amount);
 }
 
-// In the order of the sheet's kinds; db is the gain of a peak or a shelf.
+// A filter's kind by the number that C gives, in the order of the sheet's kinds; db is the gain of a peak or a shelf.
 #[tactic(auto, unfolding(crate::specs::State::kind_of))]
 fn filter_kind(n: u8, db: f32) -> biquad::FilterKind
     ensures { result ≡ kind_of n db }

@@ -79,8 +79,7 @@ pub extern "C" fn block_triangle(
         tri: cells[1],
     };
     let r = osc_block::triangle_block(out, w, s);
-    cells[0] = r.phase;
-    cells[1] = r.tri;
+    cells[..2].copy_from_slice(&[r.phase, r.tri]);
 }
 
 #[unsafe(no_mangle)]
@@ -106,8 +105,7 @@ pub extern "C" fn block_fm(
         mph: cells[1],
     };
     let r = osc_block::fm_block(out, w, index, ratio, s);
-    cells[0] = r.cph;
-    cells[1] = r.mph;
+    cells[..2].copy_from_slice(&[r.cph, r.mph]);
 }
 
 // The cells are n phases, then n ratios.

@@ -1,14 +1,17 @@
 // A constant, the values of `value_block`, and Arp, which reads its steps from a sheet, of `value_unit`.
-ghost use Rattle.std.specs.Prelude.{◌≡◌, ◌+◌, ◌^◌, ◌≤◌, ◌<◌, [], map, length};
+ghost use Rattle.std.specs.Prelude.{◌≡◌, ◌+◌, ◌*◌, ◌^◌, ◌≤◌, ◌<◌, [], map, length};
 ghost use Rattle.block.specs.Iterate.{given};
 ghost use Rattle.dsl.specs.Options.{curve_of, shape_of};
 ghost use Rattle.value_block.specs.Steps.{slide_step, lfo_step, env_mod_step, rand_step};
-ghost use Rattle.sheet.specs.Record.{next};
+ghost use Rattle.sheet.specs.Record.{kind, next};
+ghost use Rattle.sheet.specs.Below.{Below};
 ghost use Rattle.sheet.specs.Links.{Rows, Checked};
 ghost use Rattle.layout.specs.Tables.{Table, Passed};
 ghost use Rattle.unit.specs.Unit.{kind_unit};
 ghost use Rattle.unit.specs.Block.{steps, Lent};
 ghost use Rattle.block_bench.specs.State.{rand_of, playing};
+
+use sheet::kinds::{Kind, Val};
 
 #[unsafe(no_mangle)]
 pub extern "C" fn block_constant(out: &mut [f32], x: f32)
@@ -105,7 +108,39 @@ pub extern "C" fn block_rand(
     cells[..3].copy_from_slice(&[r.prev, r.next, r.phase]);
 }
 
-// The checks of a sheet, for `block_arp`: where they find no fault, 0, next is its table.
+// The kind of each of the n records, as the sheet numbers it.
+fn copy_kinds(sheet: &[u8], n: usize, kinds: &mut [u8])
+    requires { (24 + 40 * n ≤ length sheet.now) × (n ≤ 256) × (n ≤ length kinds.old) }
+    ensures { Below (kind sheet.now) kinds.old kinds.new n }
+{
+    for i in 0..n {
+        let r = &sheet[24 + 40 * i..];
+        kinds[i] = r[0];
+    }
+}
+
+// With a table for the kinds themselves, of which it takes as many as there are numbers, 256 at most. There is no heap, so its caller
+// makes it, of fixed length.
+fn check_in(
+    sheet: &[u8],
+    table: &mut [Kind],
+    kinds: &mut [u8],
+    first: &mut [usize],
+    next: &mut [usize],
+) -> u8
+    requires { Rows sheet.now (length kinds.old) × (length kinds.old ≤ length first.old) × (length kinds.old ≤ length next.old) × (256 ≤ length table.old) }
+    ensures { Checked sheet.now kinds.new first.new next.new result }
+{
+    let n = kinds.len().min(256);
+    let answer = refusal::answer(checks::check(sheet, &mut table[..n], first, next));
+    if answer != 0 {
+        return answer;
+    }
+    copy_kinds(sheet, sheet::count(sheet), kinds);
+    0
+}
+
+// The checks of a sheet, for `block_arp`: where they find no fault, 0, next is its table. C has no `Kind`, so the kinds are their numbers.
 #[unsafe(no_mangle)]
 pub extern "C" fn block_check(
     sheet: &[u8],
@@ -116,10 +151,12 @@ pub extern "C" fn block_check(
     requires { Rows sheet.now (length kinds.old) × (length kinds.old ≤ length first.old) × (length kinds.old ≤ length next.old) }
     ensures { Checked sheet.now kinds.new first.new next.new result }
 {
-    refusal::answer(checks::check(sheet, kinds, first, next))
+    let mut table = [Kind::Step; 256];
+    check_in(sheet, &mut table, kinds, first, next)
 }
 
 // Record i of a sheet that passes the checks; an Arp owns no cells and no registers.
+#[tactic(auto, unfolding(sheet::specs::Numbers::val_number))]
 #[unsafe(no_mangle)]
 pub extern "C" fn block_arp(
     out: &mut [f32],
@@ -138,5 +175,5 @@ pub extern "C" fn block_arp(
         position: t,
         ..control::Controls::fresh()
     };
-    value_unit::play(sheet, count, nexts, i, 44, c, out, cells, regs);
+    value_unit::play(sheet, count, nexts, i, Val::Arp, c, out, cells, regs);
 }

@@ -10,7 +10,7 @@ ghost use Rattle.walk.specs.Walk.{Sound};
 
 use plan::Plan;
 
-// The buffers, for the values of a record and the pitch, have N samples each.
+// The buffers, for the values of a record and the pitch, have N samples each: there is no heap.
 fn run_in<const N: usize>(
     plan: &Plan<'_>,
     c: control::Controls,

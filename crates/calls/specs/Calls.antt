@@ -21,10 +21,7 @@ use Rattle.machine.proofs.Valid.{rings-all}
 use Rattle.machine.specs.Build.{build_of, started_cells, started_registers}
 use Rattle.control.specs.Moves.{fresh}
 use Rattle.streaming.specs.Run.{Blocked}
-use Rattle.plan.specs.Planned.{Planned}
 use Rattle.refusal.specs.declared.Refusal.{Refusal}
-use Rattle.tables.specs.declared.Tables.{Tables}
-use Rattle.tables.specs.Tables.{Made}
 
 -- the controls after a call that began with c: a refusal leaves them
 abbrev pub controls_of : Controls → Result Controls Refusal → Controls
@@ -100,19 +97,6 @@ sound-late s c cs rs h = rw (lt-leb c.position (2 ^ 62) h)
 and_right : (a b : Bool) → a && b ≡ true → b ≡ true
 and_right true b e = e
 and_right false b e = let z : ◌≡◌ {A = ℕ} 0 1 = cc in let x : ⊥ = omega arith in absurd x
-
--- what the run is lent
-pub planned_of : {N M : ℕ} {s : List ℕ} {count : ℕ} {t : Tables N M} → Made s count t → Planned s count t.nexts t.acts t.begins t.afters t.places t.words t.blocks
-planned_of m = record {
-  passed = m.passed;
-  next_at = m.next_at;
-  act_at = m.act_at;
-  begin_at = m.begin_at;
-  after_at = m.after_at;
-  cells_at = m.cells_at;
-  registers_at = m.registers_at;
-  scratch_at = m.scratch_at;
-}
 
 pub sound-of : (s : List ℕ) (c : Controls) (cs : List Float) (rs : List ℕ) (ns : ℕ) → room_check s (length cs) (length rs) ns ≡ 0 → sound_ok s c cs rs ≡ true → Sound s cs rs
 sound-of s c cs rs ns e h =

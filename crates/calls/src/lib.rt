@@ -1,4 +1,5 @@
-// The calls of the player on an accepted sheet, with its tables lent to them.
+// The calls of the player on an accepted sheet, with its tables lent to them. The lent memory is three slices, as `performance` tells; each clause says that
+// it is as long as the sheet needs, which is known of the sheet and of no slice.
 #![tactic(auto)]
 
 ghost use Rattle.std.specs.Prelude.{◌≡◌, ◌≤◌, length};
@@ -40,9 +41,7 @@ pub fn play<const N: usize, const M: usize>(
     requires { Made sheet.now count t.now × (room_check sheet.now (length cells.old) (length regs.old) (length scr.old) ≡ 0) × (need ≡ scratch_from sheet.now (count_of sheet.now)) }
     ensures { Fills sheet.now c out.old cells.old regs.old scr.old (answer_of result) (controls_of c result) out.new cells.new regs.new scr.new }
 {
-    let plan = Plan::new(
-        sheet, count, &t.nexts, &t.acts, &t.begins, &t.afters, &t.places, &t.words, &t.blocks,
-    );
+    let plan = t.plan(sheet, count);
     let n = out.len();
     if !sound_ok(&plan, c, cells, regs) {
         return Err(Refusal::State);
@@ -72,12 +71,11 @@ pub fn begin<const N: usize, const M: usize>(
     requires { Made sheet.now count t.now × (room_check sheet.now (length cells.old) (length regs.old) (length scr.old) ≡ 0) × (need ≡ scratch_from sheet.now (count_of sheet.now)) }
     ensures { Builds sheet.now c cells.old regs.old scr.old 0 result cells.new regs.new scr.new }
 {
-    let plan = Plan::new(
-        sheet, count, &t.nexts, &t.acts, &t.begins, &t.afters, &t.places, &t.words, &t.blocks,
-    );
+    let plan = t.plan(sheet, count);
+    // There is no heap: a path for each record that a sheet may have.
     let mut paths = [0u64; 256];
     // The firsts stay beside the plan: only a start reads them, and each fill would carry them too, so a plan with them is no plainer.
-    paths::paths(sheet, count, &t.firsts, &t.nexts, &mut paths);
+    paths::paths(&t.links(sheet, count), &mut paths);
     state::start_all(&plan, &t.firsts, &paths, cells, regs);
     state::clear(scr, need);
     Controls::fresh()

@@ -2,15 +2,15 @@
 // bits, check 10 by its answer.
 #![tactic(auto)]
 
+use refusal::Refusal;
 use std::io;
 use std::io::Write;
 
-// The answer of check 10.
-fn check_10(position: u64, length: u64) -> u8 {
+fn check_10(position: u64, length: u64) -> Result<(), Refusal> {
     if control::positions_left(position, length) {
-        0
+        Ok(())
     } else {
-        10
+        Err(Refusal::Position)
     }
 }
 
@@ -38,7 +38,8 @@ fn main(rt: HostRuntime) -> io::Result<()> {
         ("Position 1 with length 2^64 - 1", 1, u64::MAX),
     ];
     for (name, position, length) in checks {
-        writeln!(output, "{name}: {}", check_10(position, length))?;
+        let answer = refusal::answer(check_10(position, length));
+        writeln!(output, "{name}: {answer}")?;
     }
     Ok(())
 }

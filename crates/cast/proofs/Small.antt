@@ -1,7 +1,6 @@
 -- What the proof of `small_to_u64` cites: an f32 from 1 to 2 ^ 20 has at most 32 digits after the point, so x + 2 ^ 20 is exact in f64.
-use Rattle.std.proofs.Common.{◌≡◌, ℕ, suc, ◌+◌, ◌-◌, ◌*◌, ◌/◌, ◌^◌, ◌<◌, ◌≤◌, true, false, not, ◌&&◌, T, pos, negsuc, sym, refl, ap, ◌∙◌, subst, inr, zero-le, le_trans, le_of_eq, lt_of_lt_of_le, le_of_suc-le-suc, lt_of_le_of_lt, lt_irrefl, zero-lt-suc, mul_assoc, mul_comm, mul-lt-mul_of_pos_right, lt_of_not-le, mul-one, arith, lit≤, ltb→lt, lt→ltb, pow_pos, pow_mono}
+use Rattle.std.proofs.Common.{◌≡◌, ℕ, suc, ◌+◌, ◌-◌, ◌*◌, ◌/◌, ◌^◌, ◌<◌, ◌≤◌, true, false, not, T, pos, negsuc, sym, refl, ap, ◌∙◌, subst, inr, zero-le, le_trans, le_of_eq, lt_of_lt_of_le, le_of_suc-le-suc, lt_of_le_of_lt, lt_irrefl, zero-lt-suc, mul_assoc, mul_comm, mul-lt-mul_of_pos_right, lt_of_not-le, mul-one, arith, lit≤, ltb→lt, lt→ltb, pow_pos, pow_mono}
 use lib.Ieee.{Float, nan, inf, fin, binary32, binary64, up, down, fits, is_nan, lt, le, units, round, add, of_bits, to_bits, to_unsigned}
-use lib.Ieee.Fits.{fits_widens, and_i}
 use lib.Ieee.Bits.{to_bits-of_bits}
 use lib.Ieee.Exact.{HasValue, units_val}
 use lib.Ieee.Nearest.{div_same}
@@ -9,7 +8,6 @@ use lib.Ieee.Positive.{num, den, den_pos, positive, above, above_of_le, own_valu
 use Rattle.ieee.proofs.Tests.{null, two_to}
 use Rattle.ieee.proofs.Value.{fits_lt, add-values, revalue, value-self, two-to-value}
 use Rattle.ieee.proofs.Build.{pw, build, units-fits, value-no-nan}
-use Rattle.ieee.proofs.Read.{above_no_nan}
 use Rattle.ieee.proofs.Whole.{own}
 use Rattle.ieee.proofs.Cast.{part}
 
@@ -62,7 +60,6 @@ summed a h =
     room a h = omega arith
 
 pub record Small (x : Float) : Type 0 where
-  pub wide : T (fits binary64 x && not (is_nan x))
   pub number : T (not (is_nan (add binary64 x (two_to 20))))
   pub gives : to_bits binary64 (add binary64 x (two_to 20)) / 2 ^ 32 ≡ 1093664768 + to_unsigned 64 x
 
@@ -82,7 +79,6 @@ small x F A B =
     ∙ ap (λ (z : ℕ). round binary64 false (z + 2 ^ 52) (2 ^ 32)) (mul-one a)
     ∙ s.0 in
     record {
-      wide = and_i (fits binary64 x) (not (is_nan x)) (fits_widens x F) (above_no_nan x p.1);
       number = subst (λ (z : Float). T (not (is_nan z))) (sym is) s.2;
       gives =
           ap (λ (z : Float). to_bits binary64 z / 2 ^ 32) is

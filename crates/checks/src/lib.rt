@@ -5,8 +5,10 @@ ghost use Rattle.std.specs.Prelude.{◌≡◌, ◌≤◌, length};
 ghost use Rattle.refusal.specs.Refusal.{answer_of};
 ghost use Rattle.sheet.specs.Checks.{check_of, length_ok, header_ok};
 ghost use Rattle.sheet.specs.Links.{Rows, Checked};
+ghost use Rattle.sheet.specs.Numbers.{numbers_of};
 
 use refusal::Refusal;
+use sheet::kinds::Kind;
 
 // 1
 fn length_ok(sheet: &[u8]) -> bool
@@ -31,15 +33,16 @@ fn header_ok(sheet: &[u8]) -> bool
 // ---- all of them
 
 // The lowest of checks 1 to 7 that applies. Where none does the tables hold the kind and the links of every record;
-// after a refusal nothing is promised of them but their lengths.
+// after a refusal nothing is promised of them but their lengths. The three tables are the caller's, as C lends `block_check` its own; where all checks
+// have passed `layout::Links` holds them.
 pub fn check(
     sheet: &[u8],
-    kinds: &mut [u8],
+    kinds: &mut [Kind],
     first: &mut [usize],
     next: &mut [usize],
 ) -> Result<(), Refusal>
     requires { Rows sheet.now (length kinds.old) × (length kinds.old ≤ length first.old) × (length kinds.old ≤ length next.old) }
-    ensures { Checked sheet.now kinds.new first.new next.new (answer_of result) }
+    ensures { Checked sheet.now (numbers_of kinds.new) first.new next.new (answer_of result) }
 {
     if !length_ok(sheet) {
         return Err(Refusal::Length);
@@ -52,11 +55,11 @@ pub fn check(
     shape::shape(&kinds[..n], &first[..n], &next[..n])
 }
 
-// The same with tables of its own.
+// The same with tables of its own. There is no heap: they are for as many records as a sheet may have.
 pub fn accepted(sheet: &[u8]) -> Result<(), Refusal>
     ensures { answer_of result ≡ check_of sheet.now }
 {
-    let mut kinds = [0u8; 256];
+    let mut kinds = [Kind::Step; 256];
     let mut first = [0usize; 256];
     let mut next = [0usize; 256];
     check(sheet, &mut kinds, &mut first, &mut next)

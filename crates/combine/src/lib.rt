@@ -4,6 +4,7 @@
 ghost use Rattle.std.specs.Prelude.{◌≡◌};
 ghost use Rattle.combine.specs.Combine.{mix_of, mul_of};
 
+// std's `sum` starts from -0.0, which Mix of none would then be.
 pub fn mix(xs: &[f32]) -> f32
     ensures { result ≡ mix_of xs.now }
 {
@@ -13,5 +14,5 @@ pub fn mix(xs: &[f32]) -> f32
 pub fn mul(xs: &[f32]) -> f32
     ensures { result ≡ mul_of xs.now }
 {
-    xs.iter().copied().fold(1.0, |y, x| y * x)
+    xs.iter().copied().product()
 }

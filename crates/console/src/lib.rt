@@ -28,7 +28,7 @@ pub fn read_full<R: Read>(input: &mut R, buf: &mut [u8]) -> io::Result<usize>
     Ok(done)
 }
 
-// The next `N` bytes, or `None` where the input ends before.
+// The next `N` bytes, or `None` where the input ends before. The array that is read into is the result.
 pub fn next_bytes<R: Read, const N: usize>(input: &mut R) -> io::Result<Option<[u8; N]>>
     ensures bytes { IfOk result (λ o. IfSome o (λ b. Consumes (R.remaining input.old) (R.remaining input.new) b)) }
     ensures end { IfOk result (λ o. o ≡ None → IsAtEnd (R.remaining input.new)) }
@@ -38,7 +38,7 @@ pub fn next_bytes<R: Read, const N: usize>(input: &mut R) -> io::Result<Option<[
     Ok(whole.then_some(bytes))
 }
 
-// The hexadecimal digits of `n`, in lower case, with zeros in front up to so many digits.
+// The hexadecimal digits of `n`, in lower case, with zeros in front up to so many digits. This is `write!` with a clause that names the digits.
 pub fn say_hex<W: Write>(output: &mut W, n: u64, digits: usize) -> io::Result<()>
     ensures { OnOk result (Appends (W.contents output.old) (W.contents output.new) (hex digits n)) }
 {

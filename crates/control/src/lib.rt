@@ -7,7 +7,8 @@ ghost use Rattle.control.specs.Moves.{fresh, glided, glide_of, pitch_moved, bend
 // A voice has positions from 0 to below this.
 const POSITIONS: u64 = 1 << 62;
 
-// How long the voice has sounded, in samples; the pitch's multiplier, where it glides to and by which part per sample; the bend.
+// How long the voice has sounded, in samples; the pitch's multiplier, where it glides to and by which part per sample; the bend. C
+// holds it, so any position may stand in it: what plays asks that its positions fit in a word.
 #[repr(C)]
 #[derive(Clone, Copy)]
 pub struct Controls {

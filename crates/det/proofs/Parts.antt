@@ -210,12 +210,11 @@ above-null (fin false m e) h = lt→ltb (0 * 1 * down e) (m * up e * 1) (go (dow
     go : (d a : ℕ) → 0 < a → 0 * 1 * d < a * 1
     go d a h = le_trans (le_of_eq (ap suc (ap (λ (z : ℕ). z * d) (mul-one 0) ∙ native.Mathlib.Nat.zero-mul d))) (le_trans h (le_of_eq (sym (mul-one a))))
 
-module _ (x : Float) (F : T (fits binary64 x)) (h : T (le min_positive x)) where
-  above_zero : T (above x)
-  above_zero = above_of_le (fin false 1 (negsuc 1021)) x tt (subst (λ (l : Float). T (le l x)) least h)
+above_zero : (x : Float) → T (le min_positive x) → T (above x)
+above_zero x h = above_of_le (fin false 1 (negsuc 1021)) x tt (subst (λ (l : Float). T (le l x)) least h)
 
-  pub number : T (not (is_nan x))
-  number = above_no_nan x (above-null x above_zero)
+pub number : (x : Float) → T (le min_positive x) → T (not (is_nan x))
+number x h = above_no_nan x (above-null x (above_zero x h))
 
 -- a field of 0 is a subnormal number's
 not-subnormal : (x : Float) (t : ℕ) → T (above x) → T (le min_positive x) → t < 2 ^ 52 → HasValue x false (t * 2 ^ 0) (2 ^ 1074) → ⊥
@@ -245,7 +244,7 @@ infinite-parts x e = subst (λ (x : Float). Parts x (to_bits binary64 x / 2 ^ 52
 
 pub parts : (x : Float) → T (fits binary64 x) → T (le min_positive x) → Parts x (to_bits binary64 x / 2 ^ 52) (to_bits binary64 x % 2 ^ 52)
 parts x F h =
-    let a = above_zero x F h in
+    let a = above_zero x h in
     let w = seen binary64 x F (above-null x a) in
     go w.0 w.1
   where
@@ -256,7 +255,7 @@ parts x F h =
     few = mod-lt b (pow_pos 52)
 
     go : b < 2 ^ 63 → Seen binary64 x (b / 2 ^ 52) (b % 2 ^ 52) → Parts x (b / 2 ^ 52) (b % 2 ^ 52)
-    go l (inl z) = absurd (not-subnormal x (b % 2 ^ 52) (above_zero x F h) h few z.1)
+    go l (inl z) = absurd (not-subnormal x (b % 2 ^ 52) (above_zero x h) h few z.1)
     go l (inr (inl z)) =
         let p = finite-parts x (b % 2 ^ 52) z.0 F few z.3 in
         record { most = most b l; exponent = ap (λ (k : ℕ). sub_ℕ k 1023) z.2 ∙ p.0; mantissa = p.1 }

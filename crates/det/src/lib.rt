@@ -1,5 +1,6 @@
 // det.rs: ln, pow, log10 and tanh. f64 arithmetic alone, in one order, with fdlibm's coefficients; no call of the C library,
-// so the results are the same everywhere. A constant stands as the Rust writes it.
+// so the results are the same everywhere. A constant stands as the Rust writes it. A power has one definition, which each function of a
+// power ensures: what it takes besides x and y is what its caller has at hand.
 #![tactic(auto)]
 
 ghost use Rattle.std.specs.Prelude.{◌≡◌, not, pos, T};
@@ -26,6 +27,7 @@ const LG6: f64 = 1.531383769920937332e-01;
 const LG7: f64 = 1.479819860511658591e-01;
 
 // fdlibm's e_log: ln of m times 2^k, the series parted into even and odd powers for its exact rounding.
+#[tactic(auto, unfolding(crate::specs::Log::ln_series, double::specs::Double::horner))]
 fn ln_series(m: f64, k: f64) -> f64
     ensures { result ≡ ln_series m k }
 {
@@ -41,7 +43,7 @@ fn ln_series(m: f64, k: f64) -> f64
 }
 
 // The parts of x = m 2^k, 1 <= m < 2, for a normal x or an infinity: k is the exponent's field less 1023, and m has x's
-// digits under the field of 1.0.
+// digits under the field of 1.0. Both ask that x is one, as `ln_normal` does: a type of such numbers would be made for its call alone.
 fn exponent(x: f64) -> i32
     requires { T (Ieee.le min_positive x) }
     ensures { (result ≡ exponent_of x) × T (lt_z result (pos 1025)) }
@@ -65,9 +67,9 @@ fn ln_folded(m: f64, k: i32, scale: f64) -> f64
     ensures { result ≡ ln_folded m k scale }
 {
     if m > SQRT_2 {
-        ln_series(m * 0.5, ((k + 1) as f64) + scale)
+        ln_series(m * 0.5, f64::from(k + 1) + scale)
     } else {
-        ln_series(m, (k as f64) + scale)
+        ln_series(m, f64::from(k) + scale)
     }
 }
 

@@ -4,18 +4,17 @@
 
 mod kernels;
 
-use kernels::{KERNELS, answer};
+use kernels::{double_sections, single_sections};
 use std::io;
-use std::io::{BufReader, BufWriter, Write};
+use std::io::{BufReader, BufWriter};
+use vectors::AnswerFile;
 
 fn main(rt: HostRuntime) -> io::Result<()> {
-    let mut input = BufReader::new(rt.alloc(), rt.stdin())?;
-    let mut output = BufWriter::new(rt.alloc(), rt.stdout())?;
-    vectors::compare(
-        &mut input,
-        &mut output,
-        KERNELS,
-        |place, _, x| answer(place, x),
-    )?;
-    output.flush()
+    let input = BufReader::new(rt.alloc(), rt.stdin())?;
+    let output = BufWriter::new(rt.alloc(), rt.stdout())?;
+    let mut file = AnswerFile::new(input, output);
+    double_sections(&mut file)?;
+    single_sections(&mut file)?;
+    file.end()?;
+    Ok(())
 }

@@ -112,7 +112,8 @@ const TAU: f32 = 6.28318530717958647692528676655900577;
 // -ln(1000): a ring falls by 60 dB in its decay time.
 const NEG_LN_1000: f32 = -6.907_755;
 
-// A mode's resonator: y = b0 x + a1 y' + a2 y''.
+// A mode's resonator: y = b0 x + a1 y' + a2 y''. An array would lose these names, which are the Rust's, as are those of a filter's
+// coefficients: the two share names and no formula.
 #[derive(Clone, Copy)]
 pub struct Resonator {
     pub a1: f32,

@@ -42,6 +42,7 @@ const P4: f64 = -1.65339022054652515390e-06;
 const P5: f64 = 4.13813679705723846039e-08;
 
 // fdlibm's e_exp: c = r - r^2 P(r^2), and e^r is 1 - (r c / (c - 2) - r).
+#[tactic(auto, unfolding(crate::specs::Exp::exp_poly, double::specs::Double::horner))]
 fn exp_poly(r: f64) -> f64
     ensures { result ≡ exp_poly r }
 {
@@ -54,7 +55,7 @@ const EXP_MAX: f64 = 7.09782712893383e+02;
 
 const EXP_MIN: f64 = -7.45133219101941e+02;
 
-// For every x.
+// For every x. It and the next two ensure the one definition: they differ in the range that they are quick in.
 fn exp_plain(x: f64) -> f64
     ensures { result ≡ exp_of x }
 {

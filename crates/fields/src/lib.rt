@@ -1,52 +1,52 @@
 // Checks 3 and 4 of one record.
 #![tactic(auto)]
 
-ghost use Rattle.std.specs.Prelude.{◌≡◌, ◌+◌, ◌-◌, ◌*◌, ◌≤◌, eqb, length};
+ghost use Rattle.std.specs.Prelude.{◌≡◌, ◌+◌, ◌-◌, ◌*◌, ◌≤◌, eqb};
 ghost use Rattle.sheet.specs.Bytes.{byte_at, u64_at};
-ghost use Rattle.sheet.specs.Checks.{all, record_ok, link_ok};
-ghost use Rattle.sheet.specs.Codes.{options_table, numbers_table};
+ghost use Rattle.sheet.specs.Checks.{all, link_ok};
 ghost use Rattle.sheet.specs.Links.{links_at};
+ghost use Rattle.fields.specs.Whole.{Whole};
+
+use sheet::Record;
+use sheet::kinds::Kind;
 
 // Numbers k and k + 1 of the record as one word.
-fn pair(r: &[u8], k: usize) -> u64
-    requires { (40 ≤ length r.now) × (k ≤ 6) }
+fn pair(r: &Record, k: usize) -> u64
+    requires { k ≤ 6 }
     ensures { result ≡ u64_at r.now (8 + 4 * k) }
 {
-    sheet::double(r, 8 + 4 * k)
+    sheet::double(r.bytes(), 8 + 4 * k)
 }
 
 // Whether the numbers from m on are zero, two at a time: words that overlap cost less than a branch on how many there are.
 // Joined by |, and not compared one by one, each is one load.
-fn unset(r: &[u8], m: u8) -> bool
-    requires { (40 ≤ length r.now) × (m ≤ 7) }
+fn unset(r: &Record, m: u8) -> bool
+    requires { m ≤ 7 }
     ensures { result ≡ all (λ k. eqb (byte_at r.now (8 + 4 * m + k)) 0) (32 - 4 * m) }
 {
     if 6 < m {
-        return sheet::bits(r, 7) == 0;
+        return r.bits(7) == 0;
     }
-    let k = m as usize;
+    let k = usize::from(m);
     (pair(r, k) | pair(r, (k + 2).min(6)) | pair(r, (k + 4).min(6)) | pair(r, 6)) == 0
 }
 
-// 3, of one record. The test of the kind serves both tables.
-pub fn record_ok(r: &[u8], options: &[u8; 53], numbers: &[u8; 53]) -> bool
-    requires { (40 ≤ length r.now) × (options.now ≡ options_table) × (numbers.now ≡ numbers_table) }
-    ensures { result ≡ record_ok r.now }
+// 3, of one record: its kind, or none where it fails.
+pub fn record_kind(r: &Record) -> Option<Kind>
+    ensures { Whole r.now result }
 {
-    let k = sheet::kind(r);
-    if 52 < k {
-        return false;
+    let kind = r.kind()?;
+    if kind.options() <= r.option() {
+        return None;
     }
-    if sheet::kinds::options(options, k) <= sheet::option(r) {
-        return false;
+    if sheet::half(r.bytes(), 6) != 0 {
+        return None;
     }
-    if sheet::half(r, 6) != 0 {
-        return false;
-    }
-    unset(r, sheet::kinds::numbers(numbers, k))
+    unset(r, kind.numbers()).then_some(kind)
 }
 
-// 4, of one link of record i, and of its two. Some record is there, so that a link of 0 is below n too.
+// 4, of one link of record i, and of its two. Some record is there, so that a link of 0 is below n too, and each clause
+// asks for it.
 fn link_ok(i: usize, l: usize, n: usize) -> bool
     requires { 1 ≤ n }
     ensures { result ≡ link_ok i l n }

@@ -6,7 +6,8 @@ ghost use Rattle.filter_step.specs.Filter.{tuned, biquad_step, filter_of};
 
 use biquad::Response;
 
-// A filter's eleven cells, in the sheet's order.
+// A filter's eleven cells, in the sheet's order and by the cookbook's names. Its coefficients in a struct of their own would save `tune`
+// five lines, and be taken apart wherever the cells are loaded or stored.
 #[derive(Clone, Copy)]
 pub struct Filter {
     pub scale: f32,

@@ -1,4 +1,6 @@
-// A block of a filter's record, of Drive's or of Compress's, in place, on the cells that the record owns.
+// A block of a filter's record, of Drive's or of Compress's, in place, on the cells that the record owns. The block, the value's buffer
+// and the buffer for passes stay slices of their own: they lie apart in the walk's memory, so a struct of them would be made at each call
+// only to be taken apart in the kernel.
 #![tactic(auto)]
 
 ghost use Rattle.std.specs.Prelude.{◌≡◌, List, [], ◌∷◌, ℕ, ◌≤◌, length};
@@ -6,6 +8,7 @@ ghost use Rattle.float.specs.Order.{max_of};
 ghost use Rattle.float.specs.Single.{one};
 ghost use Rattle.control.specs.declared.Controls.{Controls};
 ghost use Rattle.sheet.specs.Record.{option_of, number_of};
+ghost use Rattle.sheet.specs.Numbers.{biquad_number};
 ghost use Rattle.unit.specs.Processors.{filter_in, filter_cells, filter_unit, filter_kind_of, filter_q, drive_in, drive_cells, drive_unit, compress_unit};
 ghost use Rattle.unit.specs.Block.{Ran};
 
@@ -13,8 +16,11 @@ use biquad::Response;
 use drive_step::Drive;
 use filter_step::Filter;
 use proc::Compressor;
+use sheet::Record;
+use sheet::kinds::Biquad;
 
-// The cells are a part of the voice's memory, a slice: an array pattern would have to refuse the lengths that the contract rules out.
+// The cells are a part of the voice's memory, a slice, so each contract here says their length, and a state is loaded number by number:
+// an array pattern would have to refuse the lengths that the contract rules out.
 fn load_filter(cells: &[f32]) -> Filter
     requires { length cells.now ≡ 11 }
     ensures { result ≡ filter_in cells.now }
@@ -43,9 +49,9 @@ fn store_filter(cells: &mut [f32], s: Filter)
     ]);
 }
 
-pub fn filter(r: &[u8], sr: u32, kind: u8, out: &mut [f32], v: &[f32], cells: &mut [f32])
-    requires { (40 ≤ length r.now) × (length cells.old ≡ 11) × (length out.old ≤ length v.now) }
-    ensures { (c : Controls) (rs : List ℕ) → Ran (filter_unit (filter_kind_of kind r.now) (filter_q kind r.now) sr) c (v.now ∷ []) out.old cells.old rs out.new cells.new rs }
+pub fn filter(r: &Record, sr: u32, kind: Biquad, out: &mut [f32], v: &[f32], cells: &mut [f32])
+    requires { (length cells.old ≡ 11) × (length out.old ≤ length v.now) }
+    ensures { (c : Controls) (rs : List ℕ) → Ran (filter_unit (filter_kind_of (biquad_number kind) r.now) (filter_q (biquad_number kind) r.now) sr) c (v.now ∷ []) out.old cells.old rs out.new cells.new rs }
 {
     let response = Response {
         kind: unit::filter_kind(kind, r),
@@ -76,12 +82,13 @@ fn store_drive(cells: &mut [f32], s: Drive)
     cells.copy_from_slice(&[s.x_prev, s.f_prev, s.dc_x, s.dc_y]);
 }
 
-// Options below 3 are anti-aliased.
-pub fn drive(r: &[u8], out: &mut [f32], v: &[f32], buf: &mut [f32], cells: &mut [f32])
-    requires { (40 ≤ length r.now) × (length cells.old ≡ 4) × (length out.old ≤ length v.now) × (length out.old ≤ length buf.old) }
+// The option stays the sheet's number: it says the shape, and below 3 that it is anti-aliased. A type for the two would be made here
+// only to be matched once.
+pub fn drive(r: &Record, out: &mut [f32], v: &[f32], buf: &mut [f32], cells: &mut [f32])
+    requires { (length cells.old ≡ 4) × (length out.old ≤ length v.now) × (length out.old ≤ length buf.old) }
     ensures { (c : Controls) (rs : List ℕ) → Ran (drive_unit (option_of r.now)) c (v.now ∷ []) out.old cells.old rs out.new cells.new rs }
 {
-    let option = sheet::option(r);
+    let option = r.option();
     let shape = dsl::DriveShape::from(option);
     if option < 3 {
         let s = load_drive(cells);
@@ -93,15 +100,15 @@ pub fn drive(r: &[u8], out: &mut [f32], v: &[f32], buf: &mut [f32], cells: &mut 
 }
 
 // The cells are env, at, rt and makeup, of which a block moves env.
-pub fn compress(r: &[u8], out: &mut [f32], buf: &mut [f32], cells: &mut [f32])
-    requires { (40 ≤ length r.now) × (length cells.old ≡ 4) × (length out.old ≤ length buf.old) }
+pub fn compress(r: &Record, out: &mut [f32], buf: &mut [f32], cells: &mut [f32])
+    requires { (length cells.old ≡ 4) × (length out.old ≤ length buf.old) }
     ensures { (c : Controls) (rs : List ℕ) → Ran (compress_unit (number_of r.now 0) (max_of (number_of r.now 1) one)) c [] out.old cells.old rs out.new cells.new rs }
 {
     let c = Compressor {
         at: cells[1],
         rt: cells[2],
-        threshold: sheet::number(r, 0),
-        ratio: float::max(sheet::number(r, 1), 1.0),
+        threshold: r.number(0),
+        ratio: float::max(r.number(1), 1.0),
         makeup: cells[3],
     };
     let env = proc_block::compress_block(out, buf, c, cells[0]);

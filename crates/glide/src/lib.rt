@@ -29,7 +29,9 @@ fn rise_by(c: control::Controls, n: u64) -> control::Controls
     }
 }
 
-// A pitch that a sample does not move stays for the whole block: one product, and no chain from sample to sample.
+// A pitch that a sample does not move stays for the whole block: one product, and no chain from sample to sample. This way, the other and
+// the choice between them ensure the same, as two ways of one function do. Each asks that the positions do not run out, since the
+// controls are C's struct, and hold any position.
 fn glide_held(first: control::Controls, pitch: &mut [f32]) -> control::Controls
     requires { (glided first.pitch first.target first.glide ≡ first.pitch) × (first.position + length pitch.old ≤ 2 ^ 62) }
     ensures { (result ≡ later tick (length pitch.old) first) × Pitched (moved first) pitch.new (length pitch.old) }

@@ -19,7 +19,7 @@ pub fn mix_float(h: u64, x: f32) -> u64
     mix(h, u64::from(float::to_bits(x)))
 }
 
-// The hash with all of xs, each by its word.
+// The hash with all of xs, each by its word. That a closure may be called is what every function asks that takes one.
 pub fn hash_all<T: Copy, F: Fn(T) -> u64>(first: u64, xs: &[T], word: F) -> u64
     requires { F.IsAlwaysCallable word }
     ensures { (w : T → ℕ) → ((x : T) (r : ℕ) → F.post word x r → r ≡ w x) → result ≡ hashed w first xs.now }

@@ -1,69 +1,57 @@
-use crate::words::{adsr, half, low, of_single, one_of, single, whole};
+// The random numbers, the envelope, and the coefficients that a sample's kernels share.
+use crate::words::{halves, singles, whole};
+use dsl::Adsr;
 use rng::Rng;
-use vectors::Operands;
+use std::io;
+use std::io::{Read, Write};
+use vectors::{AnswerFile, Operands, low, of_single, single};
 
-// A number that is drawn, and then the halves of the generator's word.
-fn drawn<F: Fn(&mut Rng) -> f32>(which: u8, state: u64, draw: F) -> u64
+// A number that is drawn, and then the halves of the generator's state.
+fn drawn<F: Fn(&mut Rng) -> f32>(x: Operands, draw: F) -> [u64; 3]
     requires { F.IsAlwaysCallable draw }
 {
-    let mut rng = Rng { state };
-    let x = draw(&mut rng);
-    if which > 0 {
-        return half(which - 1, rng.state);
-    }
-    of_single(x)
+    let mut rng = Rng {
+        state: whole(x[0], x[1]),
+    };
+    let number = draw(&mut rng);
+    let [low, high] = halves(rng.state);
+    [of_single(number), low, high]
 }
 
-fn next_word(which: u8, state: u64) -> u64 {
+// The generator's state, and the word that it draws.
+fn next_word(state: u64) -> [u64; 2] {
     let mut rng = Rng { state };
     let word = rng.next_u64();
-    if which == 0 { rng.state } else { word }
+    [rng.state, word]
 }
 
-fn generator(place: u8, which: u8, x: Operands) -> u64 {
-    let state = whole(x[0], x[1]);
-    match place {
-        0 => rng::splitmix_mix(x[0]),
-        1 => next_word(which, x[0]),
-        2 => drawn(which, state, |r| r.unit()),
-        3 => drawn(which, state, |r| r.bi()),
-        4 => drawn(which, state, |r| r.range(single(x[2]), single(x[3]))),
-        5 => rng::node_path(x[0], x[1]),
-        6 => rng::node_seed(x[0]),
-        _ => half(
-            which,
-            rng::rand_seed(state, low(x[2]), low(x[3]), low(x[4])),
-        ),
-    }
+pub fn generators<R: Read, W: Write>(file: &mut AnswerFile<R, W>) -> io::Result<()> {
+    file.section(|x| rng::splitmix_mix(x[0]))?;
+    file.section(|x| next_word(x[0]))?;
+    file.section(|x| drawn(x, |r| r.unit()))?;
+    file.section(|x| drawn(x, |r| r.bi()))?;
+    file.section(|x| drawn(x, |r| r.range(single(x[2]), single(x[3]))))?;
+    file.section(|x| rng::node_path(x[0], x[1]))?;
+    file.section(|x| rng::node_seed(x[0]))?;
+    file.section(|x| {
+        let seed = whole(x[0], x[1]);
+        halves(rng::rand_seed(seed, low(x[2]), low(x[3]), low(x[4])))
+    })
 }
 
-fn envelope(x: Operands) -> f32 {
-    let env = adsr([x[1], x[2], x[3], x[4], x[5]]);
-    envelope::adsr_env(env, single(x[0]), single(x[6]))
-}
-
-fn coefficient(place: u8, which: u8, x: Operands) -> u64 {
-    let a = single(x[0]);
-    let b = single(x[1]);
-    let c = single(x[2]);
-    match place {
-        8 => of_single(envelope(x)),
-        9 => of_single(dsp::one_pole(a, b)),
-        10 => {
-            let f = dsp::follower_coeffs(a, b, c);
-            one_of(which, &[f.at, f.rt])
-        }
-        11 => {
-            let m = dsp::modal_coeffs(a, b, c, low(x[3]));
-            one_of(which, &[m.a1, m.a2, m.b0])
-        }
-        _ => of_single(dsp::freeverb_feedback(a)),
-    }
-}
-
-pub fn answer(place: u8, which: u8, x: Operands) -> u64 {
-    if place < 8 {
-        return generator(place, which, x);
-    }
-    coefficient(place, which, x)
+pub fn coefficients<R: Read, W: Write>(file: &mut AnswerFile<R, W>) -> io::Result<()> {
+    file.section(|x| {
+        let [t, a, d, s, r, punch, rel_start, ..] = singles(x);
+        envelope::adsr_env(Adsr { a, d, s, r, punch }, t, rel_start)
+    })?;
+    file.section(|x| dsp::one_pole(single(x[0]), single(x[1])))?;
+    file.section(|x| {
+        let f = dsp::follower_coeffs(single(x[0]), single(x[1]), single(x[2]));
+        [f.at, f.rt]
+    })?;
+    file.section(|x| {
+        let m = dsp::modal_coeffs(single(x[0]), single(x[1]), single(x[2]), low(x[3]));
+        [m.a1, m.a2, m.b0]
+    })?;
+    file.section(|x| dsp::freeverb_feedback(single(x[0])))
 }

@@ -1,10 +1,13 @@
+// The lengths of the lines.
 ghost use Rattle.std.specs.Prelude.{◌≡◌, ◌≤◌, ◌<◌, get_or};
 ghost use Rattle.lines.specs.Lines.{reverb_lines};
 
-use crate::words::{below, of_single, single};
-use vectors::Operands;
+use crate::words::below;
+use std::io;
+use std::io::{Read, Write};
+use vectors::{AnswerFile, single};
 
-// The rates of a document end at 192,000.
+// The rates of a document end at 192,000. `try_from` would have an error to answer for, which the `min` rules out.
 fn rate(x: u64) -> u32
     ensures { result ≤ 192000 }
 {
@@ -19,13 +22,11 @@ fn line_len(k: u64, sr: u32) -> u64
     lines::reverb_lens(sr)[k as usize]
 }
 
-pub fn answer(place: u8, x: Operands) -> u64 {
-    match place {
-        0 => lines::delay_line_len(single(x[0]), rate(x[1])),
-        1 => of_single(lines::chorus_base(rate(x[0]))),
-        2 => of_single(lines::chorus_swing(single(x[0]), rate(x[1]))),
-        3 => lines::chorus_line_len(single(x[0]), rate(x[1])),
-        4 => line_len(below(x[0], 6), rate(x[1])),
-        _ => line_len(6 + below(x[0], 4), rate(x[1])),
-    }
+pub fn lengths<R: Read, W: Write>(file: &mut AnswerFile<R, W>) -> io::Result<()> {
+    file.section(|x| lines::delay_line_len(single(x[0]), rate(x[1])))?;
+    file.section(|x| lines::chorus_base(rate(x[0])))?;
+    file.section(|x| lines::chorus_swing(single(x[0]), rate(x[1])))?;
+    file.section(|x| lines::chorus_line_len(single(x[0]), rate(x[1])))?;
+    file.section(|x| line_len(below(x[0], 6), rate(x[1])))?;
+    file.section(|x| line_len(6 + below(x[0], 4), rate(x[1])))
 }

@@ -1,102 +1,109 @@
+// The effects.
 use crate::of_filters;
-use crate::words::{below, choice, length, of_single, one_of, single, whole};
+use crate::words::{below, choice, length, singles, whole};
 use drive_step::Drive;
 use dsl::DriveShape;
 use proc::{Compressor, Mode};
-use vectors::Operands;
+use std::io;
+use std::io::{Read, Write};
+use vectors::{AnswerFile, Operands, of_single, single};
 
-fn mode_step(which: u8, x: Operands) -> u64 {
-    let mut m = Mode {
-        a1: single(x[0]),
-        a2: single(x[1]),
-        b0: single(x[2]),
-        y1: single(x[3]),
-        y2: single(x[4]),
-    };
-    let y = m.step(single(x[5]));
-    one_of(which, &[y, m.a1, m.a2, m.b0, m.y1, m.y2])
+// ---- the lines
+
+fn delay(x: Operands) -> f32 {
+    line_step::delay(single(x[0]), single(x[1]), single(x[2]))
 }
 
-fn drive_step(which: u8, x: Operands) -> u64 {
+fn next_place(x: Operands) -> u64 {
+    let len = length(x[1]);
+    line_step::next_place(below(x[0], len), len)
+}
+
+// What a comb gives is what its line held, and is not on file.
+fn comb(x: Operands) -> [f32; 2] {
+    let [feedback, store, x, y, ..] = singles(x);
+    let (_, next, line) = line_step::comb(feedback, store, x, y);
+    [next, line]
+}
+
+fn allpass(x: Operands) -> [f32; 2] {
+    let (y, line) = line_step::allpass(single(x[0]), single(x[1]));
+    [y, line]
+}
+
+fn chorus_read(x: Operands) -> [u64; 3] {
+    let [base, swing, rate, srf, ..] = singles(x);
+    let t = whole(x[6], x[7]);
+    let r = line_step::chorus_read(base, swing, rate, srf, length(x[4]), x[5], t);
+    [r.i0, r.i1, of_single(r.frac)]
+}
+
+fn chorus(x: Operands) -> f32 {
+    let [mix, frac, x, a, b, ..] = singles(x);
+    line_step::chorus(mix, frac, x, a, b)
+}
+
+// ---- what has no line
+
+fn mode_step(x: Operands) -> [f32; 6] {
+    let [a1, a2, b0, y1, y2, x, ..] = singles(x);
+    let mut m = Mode { a1, a2, b0, y1, y2 };
+    let y = m.step(x);
+    [y, m.a1, m.a2, m.b0, m.y1, m.y2]
+}
+
+fn drive_shape(x: Operands) -> DriveShape {
+    DriveShape::from(choice(x[0]))
+}
+
+fn drive_step(words: Operands) -> [f32; 5] {
+    let [_, amount, x_prev, f_prev, dc_x, dc_y, x, ..] = singles(words);
     let mut s = Drive {
-        x_prev: single(x[2]),
-        f_prev: single(x[3]),
-        dc_x: single(x[4]),
-        dc_y: single(x[5]),
+        x_prev,
+        f_prev,
+        dc_x,
+        dc_y,
     };
-    let y = s.step(DriveShape::from(choice(x[0])), single(x[1]), single(x[6]));
-    one_of(which, &[y, s.x_prev, s.f_prev, s.dc_x, s.dc_y])
+    let y = s.step(drive_shape(words), amount, x);
+    [y, s.x_prev, s.f_prev, s.dc_x, s.dc_y]
 }
 
-fn chorus_read(which: u8, x: Operands) -> u64 {
-    let r = line_step::chorus_read(
-        single(x[0]),
-        single(x[1]),
-        single(x[2]),
-        single(x[3]),
-        length(x[4]),
-        x[5],
-        whole(x[6], x[7]),
-    );
-    match which {
-        0 => r.i0,
-        1 => r.i1,
-        _ => of_single(r.frac),
-    }
+fn tremolo(words: Operands) -> f32 {
+    let [rate, depth, srf, _, _, x, ..] = singles(words);
+    proc::tremolo(rate, depth, srf, whole(words[3], words[4]), x)
 }
 
-fn compress(which: u8, x: Operands) -> u64 {
+fn compress(x: Operands) -> [f32; 2] {
+    let [at, rt, threshold, ratio, makeup, env, x, ..] = singles(x);
     let c = Compressor {
-        at: single(x[0]),
-        rt: single(x[1]),
-        threshold: single(x[2]),
-        ratio: single(x[3]),
-        makeup: single(x[4]),
+        at,
+        rt,
+        threshold,
+        ratio,
+        makeup,
     };
-    let (y, env) = c.step(single(x[5]), single(x[6]));
-    one_of(which, &[y, env])
+    let (y, next) = c.step(env, x);
+    [y, next]
 }
 
-fn next_place(w: u64, n: u64) -> u64 {
-    let len = length(n);
-    line_step::next_place(below(w, len), len)
+// ---- in the order of the file
+
+pub fn effects<R: Read, W: Write>(file: &mut AnswerFile<R, W>) -> io::Result<()> {
+    file.section(|x| proc::gain(single(x[0]), single(x[1])))?;
+    file.section(of_filters::step)?;
+    file.section(delay)?;
+    file.section(next_place)?;
+    file.section(comb)?;
+    file.section(allpass)?;
+    file.section(|x| line_step::reverb_mix(single(x[0]), single(x[1]), single(x[2])))
 }
 
-fn float_of(place: u8, x: Operands) -> f32 {
-    let a = single(x[0]);
-    let b = single(x[1]);
-    let c = single(x[2]);
-    match place {
-        0 => proc::gain(a, b),
-        2 => line_step::delay(a, b, c),
-        6 => line_step::reverb_mix(a, b, c),
-        9 => drive_step::drive_plain(DriveShape::from(choice(x[0])), b, c),
-        10 => proc::tremolo(a, b, c, whole(x[3], x[4]), single(x[5])),
-        _ => line_step::chorus(a, b, c, single(x[3]), single(x[4])),
-    }
-}
-
-pub fn answer(place: u8, which: u8, x: Operands) -> u64 {
-    match place {
-        1 => of_filters::step(which, x),
-        3 => next_place(x[0], x[1]),
-        4 => {
-            let (_, store, line) = line_step::comb(
-                single(x[0]),
-                single(x[1]),
-                single(x[2]),
-                single(x[3]),
-            );
-            one_of(which, &[store, line])
-        }
-        5 => {
-            let (y, line) = line_step::allpass(single(x[0]), single(x[1]));
-            one_of(which, &[y, line])
-        }
-        7 => mode_step(which, x),
-        8 => drive_step(which, x),
-        11 => chorus_read(which, x),
-        13 => compress(which, x),
-        _ => of_single(float_of(place, x)),
-    }
+pub fn dynamics<R: Read, W: Write>(file: &mut AnswerFile<R, W>) -> io::Result<()> {
+    file.section(mode_step)?;
+    file.section(drive_step)?;
+    file.section(|x| { drive_step::drive_plain(drive_shape(x), single(x[1]), single(x[2])) })?;
+    file.section(tremolo)?;
+    file.section(chorus_read)?;
+    file.section(chorus)?;
+    file.section(compress)
 }

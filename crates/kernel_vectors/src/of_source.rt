@@ -1,82 +1,71 @@
-ghost use Rattle.std.specs.Prelude.{◌<◌, length};
-
-use crate::words::{adsr, choice, half, of_single, one_of, single, whole};
+// The sources.
+use crate::words::{adsr, choice, halves, singles, whole};
 use dsl::SuperWave;
 use rng::Rng;
 use source::{Fm, Frequency, Triangle};
+use std::io;
+use std::io::{Read, Write};
 use unpitched::{Brown, Dust, Impact, Pink};
-use vectors::Operands;
+use vectors::{AnswerFile, Answers, Operands, of_single, single};
 
-// A frequency by three words.
-fn frequency(value: u64, pitch: u64, srf: u64) -> Frequency {
-    Frequency {
-        value: single(value),
-        pitch: single(pitch),
-        srf: single(srf),
-    }
-}
+// ---- the oscillators: a sample, and then the state after it
 
-fn triangle(which: u8, x: Operands) -> u64 {
-    let mut s = Triangle {
-        phase: single(x[3]),
-        tri: single(x[4]),
-    };
-    let y = s.step(frequency(x[0], x[1], x[2]));
-    one_of(which, &[y, s.phase, s.tri])
-}
-
-fn fm(which: u8, x: Operands) -> u64 {
-    let mut s = Fm {
-        cph: single(x[5]),
-        mph: single(x[6]),
-    };
-    let w = frequency(x[0], x[3], x[4]);
-    let y = s.step(w, single(x[1]), single(x[2]));
-    one_of(which, &[y, s.cph, s.mph])
-}
-
-// A sample, and the next phase.
-fn phased(place: u8, x: Operands) -> (f32, f32) {
-    let w = frequency(x[0], x[1], x[2]);
-    match place {
-        0 => source::sine(w, single(x[3])),
-        1 => source::square(frequency(x[0], x[2], x[3]), single(x[1]), single(x[4])),
-        2 => source::saw(w, single(x[3])),
-        _ => source::super_voice(
-            SuperWave::from(choice(x[0])),
-            single(x[1]),
-            single(x[2]),
-            single(x[3]),
-            single(x[4]),
-        ),
-    }
-}
-
-fn oscillator(place: u8, which: u8, x: Operands) -> u64 {
-    match place {
-        3 => triangle(which, x),
-        4 => fm(which, x),
-        _ => {
-            let (y, phase) = phased(place, x);
-            one_of(which, &[y, phase])
-        }
-    }
-}
-
-// A result that comes before the generator's word, and what else is left after it.
-fn drawn(which: u8, out: f32, word: u64, left: &[f32]) -> u64
-    requires { 0 < length left.now }
+fn phased<F: Fn(Frequency, f32) -> (f32, f32)>(x: Operands, step: F) -> [f32; 2]
+    requires { F.IsAlwaysCallable step }
 {
-    match which {
-        0 => of_single(out),
-        1 | 2 => half(which - 1, word),
-        _ => one_of(which - 3, left),
-    }
+    let [value, pitch, srf, phase, ..] = singles(x);
+    let (y, next) = step(Frequency { value, pitch, srf }, phase);
+    [y, next]
 }
 
-fn white(which: u8, x: Operands) -> u64 {
-    let (out, word) = unpitched::white(whole(x[0], x[1]));
-    drawn(which, out, word, &[out])
+fn square(x: Operands) -> [f32; 2] {
+    let [value, duty, pitch, srf, phase, ..] = singles(x);
+    let (y, next) = source::square(Frequency { value, pitch, srf }, duty, phase);
+    [y, next]
+}
+
+fn triangle(x: Operands) -> [f32; 3] {
+    let [value, pitch, srf, phase, tri, ..] = singles(x);
+    let mut s = Triangle { phase, tri };
+    let y = s.step(Frequency { value, pitch, srf });
+    [y, s.phase, s.tri]
+}
+
+fn fm(x: Operands) -> [f32; 3] {
+    let [value, index, ratio, pitch, srf, cph, mph, ..] = singles(x);
+    let mut s = Fm { cph, mph };
+    let y = s.step(Frequency { value, pitch, srf }, index, ratio);
+    [y, s.cph, s.mph]
+}
+
+fn super_voice(x: Operands) -> [f32; 2] {
+    let [_, f, ratio, srf, phase, ..] = singles(x);
+    let wave = SuperWave::from(choice(x[0]));
+    let (y, next) = source::super_voice(wave, f, ratio, srf, phase);
+    [y, next]
+}
+
+pub fn oscillators<R: Read, W: Write>(file: &mut AnswerFile<R, W>) -> io::Result<()> {
+    file.section(|x| phased(x, source::sine))?;
+    file.section(square)?;
+    file.section(|x| phased(x, source::saw))?;
+    file.section(triangle)?;
+    file.section(fm)?;
+    file.section(super_voice)
+}
+
+// ---- what has no pitch: a sample, the generator's state, and what else is left after it
+
+fn drawn(out: f32, state: u64, left: &[f32]) -> Answers {
+    let [low, high] = halves(state);
+    let mut words = [0; 20];
+    words[0] = of_single(out);
+    words[1] = low;
+    words[2] = high;
+    for (word, x) in words[3..].iter_mut().zip(left) {
+        *word = of_single(*x);
+    }
+    Answers { words }
 }
 
 fn rng_of(x: Operands) -> Rng {
@@ -85,66 +74,56 @@ fn rng_of(x: Operands) -> Rng {
     }
 }
 
-fn pink(which: u8, x: Operands) -> u64 {
-    let mut s = Pink {
-        rng: rng_of(x),
-        poles: [
-            single(x[2]),
-            single(x[3]),
-            single(x[4]),
-            single(x[5]),
-            single(x[6]),
-            single(x[7]),
-            single(x[8]),
-        ],
-    };
-    let out = s.step();
-    drawn(which, out, s.rng.state, &s.poles)
+fn white(x: Operands) -> Answers {
+    let (out, state) = unpitched::white(whole(x[0], x[1]));
+    drawn(out, state, &[out])
 }
 
-fn brown(which: u8, x: Operands) -> u64 {
+fn pink(x: Operands) -> Answers {
+    let [_, _, p0, p1, p2, p3, p4, p5, p6, ..] = singles(x);
+    let mut s = Pink {
+        rng: rng_of(x),
+        poles: [p0, p1, p2, p3, p4, p5, p6],
+    };
+    let out = s.step();
+    drawn(out, s.rng.state, &s.poles)
+}
+
+fn brown(x: Operands) -> Answers {
     let mut s = Brown {
         rng: rng_of(x),
         last: single(x[2]),
     };
     let out = s.step();
-    drawn(which, out, s.rng.state, &[s.last])
+    drawn(out, s.rng.state, &[s.last])
 }
 
-fn dust(which: u8, x: Operands) -> u64 {
-    let mut s = Dust {
-        rng: rng_of(x),
-        y: single(x[4]),
-    };
-    let out = s.step(single(x[2]), single(x[3]));
-    drawn(which, out, s.rng.state, &[s.y])
+fn dust(x: Operands) -> Answers {
+    let [_, _, chance, decay, y, ..] = singles(x);
+    let mut s = Dust { rng: rng_of(x), y };
+    let out = s.step(chance, decay);
+    drawn(out, s.rng.state, &[s.y])
+}
+
+fn impact(x: Operands) -> f32 {
+    let [w, norm, t, ..] = x;
+    let norm = single(norm);
+    Impact { w, norm }.at(t)
 }
 
 fn env(x: Operands) -> f32 {
-    let env = adsr([x[0], x[1], x[2], x[3], x[4]]);
-    unpitched::env(env, single(x[5]), single(x[6]), whole(x[7], x[8]))
+    unpitched::env(adsr(x), single(x[5]), single(x[6]), whole(x[7], x[8]))
 }
 
-fn other(place: u8, which: u8, x: Operands) -> u64 {
-    let a = single(x[0]);
-    let b = single(x[1]);
-    match place {
-        6 => unpitched::impact_width(a, b),
-        7 => of_single(unpitched::impact_norm(a, x[1])),
-        8 => of_single(Impact { w: x[0], norm: b }.at(x[2])),
-        9 => white(which, x),
-        10 => pink(which, x),
-        11 => brown(which, x),
-        12 => of_single(unpitched::dust_chance(a, b)),
-        13 => of_single(unpitched::dust_decay(a, b)),
-        14 => dust(which, x),
-        _ => of_single(env(x)),
-    }
-}
-
-pub fn answer(place: u8, which: u8, x: Operands) -> u64 {
-    if place < 6 {
-        return oscillator(place, which, x);
-    }
-    other(place, which, x)
+pub fn noises<R: Read, W: Write>(file: &mut AnswerFile<R, W>) -> io::Result<()> {
+    file.section(|x| unpitched::impact_width(single(x[0]), single(x[1])))?;
+    file.section(|x| unpitched::impact_norm(single(x[0]), x[1]))?;
+    file.section(impact)?;
+    file.section(white)?;
+    file.section(pink)?;
+    file.section(brown)?;
+    file.section(|x| unpitched::dust_chance(single(x[0]), single(x[1])))?;
+    file.section(|x| unpitched::dust_decay(single(x[0]), single(x[1])))?;
+    file.section(dust)?;
+    file.section(env)
 }

@@ -1,56 +1,68 @@
-use crate::words::{adsr, choice, half, length, of_single, one_of, single, whole};
+// The values that change over time.
+use crate::words::{adsr, choice, halves, length, singles, whole};
 use dsl::{Curve, EnvMod, Lfo, Shape, Slide};
 use rand_value::Rand;
 use rng::Rng;
-use vectors::Operands;
+use std::io;
+use std::io::{Read, Write};
+use vectors::{AnswerFile, Operands, of_single, single};
 
 fn slide(x: Operands) -> f32 {
+    let [_, from, to, secs, srf, ..] = singles(x);
     let v = Slide {
-        from: single(x[1]),
-        to: single(x[2]),
-        secs: single(x[3]),
+        from,
+        to,
+        secs,
         curve: Curve::from(choice(x[0])),
     };
-    value::slide(v, single(x[4]), whole(x[5], x[6]))
+    value::slide(v, srf, whole(x[5], x[6]))
 }
 
 fn lfo(x: Operands) -> f32 {
+    let [_, rate, depth, center, srf, ..] = singles(x);
     let v = Lfo {
         shape: Shape::from(choice(x[0])),
-        rate: single(x[1]),
-        depth: single(x[2]),
-        center: single(x[3]),
+        rate,
+        depth,
+        center,
     };
-    value::lfo(v, single(x[4]), whole(x[5], x[6]))
+    value::lfo(v, srf, whole(x[5], x[6]))
 }
 
 fn env_mod(x: Operands) -> f32 {
-    let env = adsr([x[0], x[1], x[2], x[3], x[4]]);
+    let [_, _, _, _, _, from, to, srf, rel_start, ..] = singles(x);
     let v = EnvMod {
-        env,
-        from: single(x[5]),
-        to: single(x[6]),
+        env: adsr(x),
+        from,
+        to,
     };
-    value::env_mod(v, single(x[7]), single(x[8]), whole(x[9], x[10]))
+    value::env_mod(v, srf, rel_start, whole(x[9], x[10]))
 }
 
-fn rand_next(which: u8, x: Operands) -> u64 {
+fn rand_next(x: Operands) -> [u64; 5] {
+    let [inc, from, to, _, _, prev, next, phase, ..] = singles(x);
     let mut s = Rand {
         rng: Rng {
             state: whole(x[3], x[4]),
         },
-        prev: single(x[5]),
-        next: single(x[6]),
-        phase: single(x[7]),
+        prev,
+        next,
+        phase,
     };
-    s.advance(single(x[0]), single(x[1]), single(x[2]));
-    if which < 2 {
-        return half(which, s.rng.state);
-    }
-    one_of(which - 2, &[s.prev, s.next, s.phase])
+    s.advance(inc, from, to);
+    let [low, high] = halves(s.rng.state);
+    [
+        low,
+        high,
+        of_single(s.prev),
+        of_single(s.next),
+        of_single(s.phase),
+    ]
 }
 
-fn rand_out(prev: f32, next: f32, phase: f32) -> f32 {
+// The generator has no part in what comes out.
+fn rand_out(x: Operands) -> f32 {
+    let [prev, next, phase, ..] = singles(x);
     let s = Rand {
         rng: Rng { state: 0 },
         prev,
@@ -60,24 +72,16 @@ fn rand_out(prev: f32, next: f32, phase: f32) -> f32 {
     s.out()
 }
 
-fn float_of(place: u8, x: Operands) -> f32 {
-    let a = single(x[0]);
-    let b = single(x[1]);
-    match place {
-        0 => slide(x),
-        1 => lfo(x),
-        2 => value::lfo_phase(a, b, whole(x[2], x[3])),
-        4 => value::release_start(whole(x[0], x[1]), single(x[2]), single(x[3])),
-        5 => env_mod(x),
-        6 => rand_value::rand_increment(a, b),
-        _ => rand_out(a, b, single(x[2])),
-    }
-}
-
-pub fn answer(place: u8, which: u8, x: Operands) -> u64 {
-    match place {
-        3 => value::arp_index(single(x[0]), single(x[1]), whole(x[2], x[3]), length(x[4])),
-        8 => rand_next(which, x),
-        _ => of_single(float_of(place, x)),
-    }
+pub fn values<R: Read, W: Write>(file: &mut AnswerFile<R, W>) -> io::Result<()> {
+    file.section(slide)?;
+    file.section(lfo)?;
+    file.section(|x| value::lfo_phase(single(x[0]), single(x[1]), whole(x[2], x[3])))?;
+    file.section(|x| {
+        value::arp_index(single(x[0]), single(x[1]), whole(x[2], x[3]), length(x[4]))
+    })?;
+    file.section(|x| value::release_start(whole(x[0], x[1]), single(x[2]), single(x[3])))?;
+    file.section(env_mod)?;
+    file.section(|x| rand_value::rand_increment(single(x[0]), single(x[1])))?;
+    file.section(rand_out)?;
+    file.section(rand_next)
 }

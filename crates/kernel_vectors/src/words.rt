@@ -1,58 +1,31 @@
-// The words of a case: the bits of an f32, a number, or half of a 64-bit word.
-ghost use Rattle.std.specs.Prelude.{◌≡◌, ◌+◌, ◌*◌, ◌/◌, ◌%◌, ◌≤◌, ◌<◌, length};
-ghost use Rattle.std.specs.Float.Ieee as Ieee;
-ghost use Rattle.std.specs.Float.{binary32};
+// What the words of a case are beside one float: halves of a number, all floats at once, numbers in a range.
+ghost use Rattle.std.specs.Prelude.{◌≡◌, ◌+◌, ◌*◌, ◌%◌, ◌≤◌, ◌<◌, min};
 
 use dsl::Adsr;
+use vectors::{Operands, low, single};
 
-pub fn low(x: u64) -> u32
-    ensures { result ≡ x % 4294967296 }
-{
-    (x % 4294967296) as u32
-}
-
-pub fn single(bits: u64) -> f32
-    ensures { result ≡ Ieee.of_bits binary32 (bits % 4294967296) }
-{
-    float::from_bits((bits % 4294967296) as u32)
-}
-
-pub fn of_single(x: f32) -> u64
-    ensures { result ≡ Ieee.to_bits binary32 x }
-{
-    u64::from(float::to_bits(x))
-}
-
-// The answer at a place, or the last where there are fewer.
-pub fn one_of(which: u8, answers: &[f32]) -> u64
-    requires { 0 < length answers.now }
-{
-    of_single(answers[usize::from(which).min(answers.len() - 1)])
-}
-
-// The word of which the file has the low half first.
+// The number of which the file has the low half first.
 pub fn whole(l: u64, h: u64) -> u64
     ensures { result ≡ l % 4294967296 + 4294967296 * (h % 4294967296) }
 {
-    l % 4294967296 + 4294967296 * (h % 4294967296)
+    u64::from(low(l)) | u64::from(low(h)) << 32
 }
 
-// A half of the word: the low one where `place` is 0.
-pub fn half(place: u8, w: u64) -> u64
-    ensures { result < 4294967296 }
-{
-    if place == 0 {
-        w % 4294967296
-    } else {
-        w / 4294967296
-    }
+// The low half of a number, and the high one.
+pub fn halves(word: u64) -> [u64; 2] {
+    [u64::from(low(word)), word >> 32]
 }
 
-// The number of a choice.
+// All words as floats.
+pub fn singles(x: Operands) -> [f32; 20] {
+    x.map(|word| single(word))
+}
+
+// The file's number of a choice, of which `From<u8>` makes the enum.
 pub fn choice(x: u64) -> u8
-    ensures { result ≤ x }
+    ensures { result ≡ min x 255 }
 {
-    x.min(255) as u8
+    u8::try_from(x).unwrap_or(u8::MAX)
 }
 
 // A length, which is never 0.
@@ -70,13 +43,8 @@ pub fn below(x: u64, n: u64) -> u64
     if x < n { x } else { 0 }
 }
 
-// The envelope of five words.
-pub fn adsr(w: [u64; 5]) -> Adsr {
-    Adsr {
-        a: single(w[0]),
-        d: single(w[1]),
-        s: single(w[2]),
-        r: single(w[3]),
-        punch: single(w[4]),
-    }
+// The envelope of the first five words.
+pub fn adsr(x: Operands) -> Adsr {
+    let [a, d, s, r, punch, ..] = singles(x);
+    Adsr { a, d, s, r, punch }
 }

@@ -10,9 +10,10 @@ use Rattle.std.proofs.Math.Dec.{eqb}
 use Rattle.sheet.specs.Bytes.{u16_at}
 use Rattle.sheet.specs.Record.{count_of, option_of, record_at, kind, first, next}
 use Rattle.sheet.specs.Kinds.{Chain, empty, values, nodes, row_of, lookup, is_node, is_value, is_fold}
-use Rattle.sheet.specs.Tree.{records, spine}
+use Rattle.sheet.specs.Tree.{spine}
 use Rattle.sheet.specs.Checks.{every, holds, chain_ok, record_ok}
-use Rattle.layout.specs.Built.{owner, built, role, is_played, begin, after}
+use Rattle.layout.specs.Built.{owner, role, is_played, begin, after}
+use Rattle.layout.specs.declared.Role.TheVariants.{Built}
 use Rattle.layout.specs.Good.{Good, and_left, and_right}
 use Rattle.layout.specs.Owners.{owner-first, owner-next, records-none, records-some, reached}
 use Rattle.layout.proofs.Roles.{begin-built, begin-other, after_next, leaf-built}
@@ -103,9 +104,9 @@ module _ (s : List ℕ) (g : Good s) where
     pub in_sheet : j < count_of s
     pub of : owner s j ≡ i
     pub value : is_value (kind s j) ≡ true
-    pub made : role s j ≡ built
+    pub made : role s j ≡ Built
 
-  value-first : (i n : ℕ) → i < count_of s → role s i ≡ built → (row_of (kind s i)).chain ≡ values (suc n) → Value i (begin s i) × (length (kinds_from s (next s (begin s i))) ≡ n)
+  value-first : (i n : ℕ) → i < count_of s → role s i ≡ Built → (row_of (kind s i)).chain ≡ values (suc n) → Value i (begin s i) × (length (kinds_from s (next s (begin s i))) ≡ n)
   value-first i n h r e =
       let k = no-nodes (kind s i) (values-nodes _ (suc n) e) in
       let b = begin-other s i r k.1 in
@@ -122,7 +123,7 @@ module _ (s : List ℕ) (g : Good s) where
         m.1,
       )
 
-  value-next : (i j n c : ℕ) → i < count_of s → role s i ≡ built → (row_of (kind s i)).chain ≡ values c → Value i j → length (kinds_from s (next s j)) ≡ suc n
+  value-next : (i j n c : ℕ) → i < count_of s → role s i ≡ Built → (row_of (kind s i)).chain ≡ values c → Value i j → length (kinds_from s (next s j)) ≡ suc n
       → Value i (after s j) × (length (kinds_from s (next s (after s j))) ≡ n)
   value-next i j n c h r e v l =
       let k = no-nodes (kind s i) (values-nodes _ c e) in
@@ -143,10 +144,10 @@ module _ (s : List ℕ) (g : Good s) where
   value-last : (i j : ℕ) → Value i j → length (kinds_from s (next s j)) ≡ 0 → after s j ≡ 0
   value-last i j v l = after_next s j (ap is_played v.made) ∙ kinds-end (next s j) (g.next_in j) l
 
-  pub one_value : (i : ℕ) → i < count_of s → role s i ≡ built → (row_of (kind s i)).chain ≡ values 1 → Value i (begin s i) × (after s (begin s i) ≡ 0)
+  pub one_value : (i : ℕ) → i < count_of s → role s i ≡ Built → (row_of (kind s i)).chain ≡ values 1 → Value i (begin s i) × (after s (begin s i) ≡ 0)
   one_value i h r e = let a = value-first i 0 h r e in (a.0, value-last i (begin s i) a.0 a.1)
 
-  pub two-values : (i : ℕ) → i < count_of s → role s i ≡ built → (row_of (kind s i)).chain ≡ values 2
+  pub two-values : (i : ℕ) → i < count_of s → role s i ≡ Built → (row_of (kind s i)).chain ≡ values 2
       → Value i (begin s i) × Value i (after s (begin s i)) × (after s (after s (begin s i)) ≡ 0)
   two-values i h r e =
       let a = value-first i 1 h r e in

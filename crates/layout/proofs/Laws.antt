@@ -1,16 +1,10 @@
 -- What a player may rest on, of a sheet that no check refuses.
-use Rattle.std.specs.Prelude.{◌≡◌, true, List, ◌≢◌, ℕ, ◌+◌, ◌≤◌, ◌<◌}
-use Rattle.tree.specs.Tree.{In, Apart}
-use Rattle.tree.specs.Forest.{Forest}
-use Rattle.tree.specs.Flat.{Rows}
-use Rattle.sheet.specs.Record.{count_of}
+use Rattle.std.specs.Prelude.{◌≡◌, List, ℕ}
 use Rattle.sheet.specs.Checks.{check_of}
-use Rattle.layout.specs.Built.{role, is_played, begin, after}
-use Rattle.layout.specs.Needs.{cells, registers, scratch, cells_from, registers_from, scratch_from}
+use Rattle.layout.specs.Needs.{scratch}
 use Rattle.layout.specs.Good.{good}
-use Rattle.layout.specs.Played.{played_tree}
 use Rattle.layout.proofs.Played.{played-forest, begin-in, after-in, after-root, played-apart, played-in, in-played}
-use Rattle.layout.specs.Counts.{layout_of, rows_of, sum-above, cells-within, registers-within, scratch-within}
+use Rattle.layout.specs.Counts.{rows_of, sum-above, cells-within, registers-within, scratch-within}
 use Rattle.layout.specs.Laws.{Playable}
 
 pub playable : (s : List ℕ) → check_of s ≡ 0 → Playable s

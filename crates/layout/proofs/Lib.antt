@@ -3,3 +3,4 @@ pub mod Contents
 pub mod Played
 pub mod Laws
 pub mod Tables
+pub mod Within

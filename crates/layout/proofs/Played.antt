@@ -6,18 +6,19 @@ use Rattle.std.proofs.Math.Bool.{true}
 use Prim.Native.Nat.{ℕ, zero, suc, ◌+◌, ◌-◌, ◌≤◌, ◌<◌}
 use native.Mathlib.Omega.{arith}
 use Rattle.std.proofs.Math.Decide.{ℕ_discrete}
-use Rattle.tree.specs.Tree.{Tree, In, here, kid, rest, Apart}
+use Rattle.tree.specs.Tree.{In, here, kid, rest, Apart}
 use Rattle.tree.specs.Forest.{Forest, build, Link, down, along, whole, root, root-apart, root-all}
 use Rattle.sheet.specs.Record.{count_of, kind, first, next}
 use Rattle.sheet.specs.Kinds.{is_processor}
-use Rattle.layout.specs.Built.{linker, owner, trailing, silent, built, role, is_played, begin, after}
+use Rattle.layout.specs.Built.{linker, owner, trailing, role, is_played, begin, after}
+use Rattle.layout.specs.declared.Role.TheVariants.{Silent, Built}
 use Rattle.layout.specs.Good.{Good, false-true}
 use Rattle.layout.specs.Owners.{linker-in, linker-links, linker-below, owner-first, owner-next, owner-below, next-inside}
 use Rattle.layout.specs.Roles.{stage_from}
 use Rattle.layout.proofs.Roles.{begin-built, begin-chain, begin-other, after-played, after_next, stage-none, stage-here, staged, stage-past, played-owner, chain-last, chain-built, other-played, next-played, role-root}
 use Rattle.layout.specs.Played.{played_tree}
 
-either : (b : Bool) → is_played (cond b silent built) ≡ true
+either : (b : Bool) → is_played (cond b Silent Built) ≡ true
 either true = refl
 either false = refl
 
@@ -177,7 +178,7 @@ module _ (s : List ℕ) (g : Good s) where
       b : linker s j < j
       b = linker-below s g j d h
 
-      r : role s (owner s j) ≡ built
+      r : role s (owner s j) ≡ Built
       r = played-owner s g j d h e
 
       ow : first s (linker s j) ≡ j → owner s j ≡ linker s j
@@ -217,7 +218,7 @@ module _ (s : List ℕ) (g : Good s) where
     | no k ↦ other-played s g (begin s i) d h (rw o r) (rw o k)
   ]
     where
-      r : role s i ≡ built
+      r : role s i ≡ Built
       r = begin-built s i d
 
       h : begin s i < count_of s

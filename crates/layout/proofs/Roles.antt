@@ -9,33 +9,35 @@ use Rattle.sheet.specs.Record.{count_of, kind, first, next}
 use Rattle.sheet.specs.Kinds.{is_processor, is_fold}
 use Rattle.sheet.specs.Tree.{records, spine}
 use Rattle.sheet.specs.Checks.{every}
-use Rattle.layout.specs.Built.{owner, processors, trailing, Role, out, silent, built, role_in, root_role, role_by, role, is_built, is_played, stage, begin, after}
+use Rattle.layout.specs.Built.{owner, processors, trailing, role_in, root_role, role_by, role, is_built, is_played, stage, begin, after}
+use Rattle.layout.specs.declared.Role.{Role}
+use Rattle.layout.specs.declared.Role.TheVariants.{Out, Silent, Built}
 use Rattle.layout.specs.Good.{Good, false-true}
 use Rattle.layout.specs.Owners.{owner-first, owner-next, owner-below, next-inside, records-none, records-some, along, reached}
 use Rattle.layout.specs.Roles.{stage_from}
 
 -- ---- roles by cases
-pub is-built : (r : Role) → is_built r ≡ true → r ≡ built
-is-built out e = absurd (false-true e)
-is-built silent e = absurd (false-true e)
-is-built built e = refl
+pub is-built : (r : Role) → is_built r ≡ true → r ≡ Built
+is-built Out e = absurd (false-true e)
+is-built Silent e = absurd (false-true e)
+is-built Built e = refl
 
-role-in-built : (r : Role) (k : ℕ) (p l : Bool) → is_played (role_in r k p l) ≡ true → r ≡ built
+role-in-built : (r : Role) (k : ℕ) (p l : Bool) → is_played (role_in r k p l) ≡ true → r ≡ Built
 unfolding role_in
-role-in-built out k p l e = absurd (false-true e)
-role-in-built silent k p l e = absurd (false-true e)
-role-in-built built k p l e = refl
+role-in-built Out k p l e = absurd (false-true e)
+role-in-built Silent k p l e = absurd (false-true e)
+role-in-built Built k p l e = refl
 
-played-last : (p l : Bool) → is_played (role_in built 13 p l) ≡ true → l ≡ true
+played-last : (p l : Bool) → is_played (role_in Built 13 p l) ≡ true → l ≡ true
 unfolding role_in
 played-last p true e = refl
 played-last p false e = e
 
-played-other : (k : ℕ) (p l : Bool) → k ≢ 13 → is_played (role_in built k p l) ≡ true
+played-other : (k : ℕ) (p l : Bool) → k ≢ 13 → is_played (role_in Built k p l) ≡ true
 unfolding role_in
 played-other k p l d = rw (ne_eqb k 13 d) (go (is_fold k) p)
   where
-    go : (f p : Bool) → is_played (cond f (cond p silent built) built) ≡ true
+    go : (f p : Bool) → is_played (cond f (cond p Silent Built) Built) ≡ true
     go true true = refl
     go true false = refl
     go false p = refl
@@ -50,26 +52,26 @@ role-none s zero j e = refl
 role-none s (suc n) j e = rw (eq-eqb j 0 e)
 
 -- a link that is not 0 is one of a record with the role that it needs
-cond-built : (r : Role) (x : ℕ) → cond (is_built r) x 0 ≢ 0 → r ≡ built
-cond-built out x d = absurd (d refl)
-cond-built silent x d = absurd (d refl)
-cond-built built x d = refl
+cond-built : (r : Role) (x : ℕ) → cond (is_built r) x 0 ≢ 0 → r ≡ Built
+cond-built Out x d = absurd (d refl)
+cond-built Silent x d = absurd (d refl)
+cond-built Built x d = refl
 
 cond-played : (r : Role) (x : ℕ) → cond (is_played r) x 0 ≢ 0 → is_played r ≡ true
-cond-played out x d = absurd (d refl)
-cond-played silent x d = refl
-cond-played built x d = refl
+cond-played Out x d = absurd (d refl)
+cond-played Silent x d = refl
+cond-played Built x d = refl
 
 -- ---- the links of what is played, by cases
-pub begin-built : (s : List ℕ) (i : ℕ) → begin s i ≢ 0 → role s i ≡ built
+pub begin-built : (s : List ℕ) (i : ℕ) → begin s i ≢ 0 → role s i ≡ Built
 unfolding begin
 begin-built s i d = cond-built (role s i) _ d
 
-pub begin-chain : (s : List ℕ) (i : ℕ) → role s i ≡ built → kind s i ≡ 13 → begin s i ≡ stage_from s (first s i)
+pub begin-chain : (s : List ℕ) (i : ℕ) → role s i ≡ Built → kind s i ≡ 13 → begin s i ≡ stage_from s (first s i)
 unfolding begin
 begin-chain s i r k = rw (r, eq-eqb (kind s i) 13 k)
 
-pub begin-other : (s : List ℕ) (i : ℕ) → role s i ≡ built → kind s i ≢ 13 → begin s i ≡ first s i
+pub begin-other : (s : List ℕ) (i : ℕ) → role s i ≡ Built → kind s i ≢ 13 → begin s i ≡ first s i
 unfolding begin
 begin-other s i r k = rw (r, ne_eqb (kind s i) 13 k)
 
@@ -203,27 +205,27 @@ module _ (s : List ℕ) (g : Good s) where
           ap (λ k. stage_from s (first s k)) (owner-next s g i j e d) ∙ f (trailing-back j t i e d) ∙ ap (stage_from s) e ∙ stage-on j d h t
 
   -- ---- the role of a record by its owner's
-  pub played-owner : (j : ℕ) → j ≢ 0 → j < count_of s → is_played (role s j) ≡ true → role s (owner s j) ≡ built
+  pub played-owner : (j : ℕ) → j ≢ 0 → j < count_of s → is_played (role s j) ≡ true → role s (owner s j) ≡ Built
   played-owner j d h e = role-in-built (role s (owner s j)) (kind s (owner s j)) (is_processor (kind s j)) (trailing s j) (ap is_played (sym (role-in j d h)) ∙ e)
 
-  role_under : (j : ℕ) → j ≢ 0 → j < count_of s → role s (owner s j) ≡ built → role s j ≡ role_in built (kind s (owner s j)) (is_processor (kind s j)) (trailing s j)
+  role_under : (j : ℕ) → j ≢ 0 → j < count_of s → role s (owner s j) ≡ Built → role s j ≡ role_in Built (kind s (owner s j)) (is_processor (kind s j)) (trailing s j)
   role_under j d h r = role-in j d h ∙ ap (λ r. role_in r (kind s (owner s j)) (is_processor (kind s j)) (trailing s j)) r
 
   -- in a Chain: what is played has only processors after it, and such a stage is built
   pub chain-last : (j : ℕ) → j ≢ 0 → j < count_of s → kind s (owner s j) ≡ 13 → is_played (role s j) ≡ true → trailing s j ≡ true
-  chain-last j d h k e = played-last (is_processor (kind s j)) (trailing s j) (ap (λ k. is_played (role_in built k (is_processor (kind s j)) (trailing s j))) (sym k)
+  chain-last j d h k e = played-last (is_processor (kind s j)) (trailing s j) (ap (λ k. is_played (role_in Built k (is_processor (kind s j)) (trailing s j))) (sym k)
       ∙ ap is_played (sym (role_under j d h (played-owner j d h e))) ∙ e)
 
-  pub chain-built : (j : ℕ) → j ≢ 0 → j < count_of s → role s (owner s j) ≡ built → kind s (owner s j) ≡ 13 → trailing s j ≡ true → role s j ≡ built
+  pub chain-built : (j : ℕ) → j ≢ 0 → j < count_of s → role s (owner s j) ≡ Built → kind s (owner s j) ≡ 13 → trailing s j ≡ true → role s j ≡ Built
   unfolding role_in
   chain-built j d h r k t = role_under j d h r ∙ rw (k, t)
 
   -- in any other record's chain all is built; in any but a Chain's all is played
-  pub leaf-built : (j : ℕ) → j ≢ 0 → j < count_of s → role s (owner s j) ≡ built → is_fold (kind s (owner s j)) ≡ false → kind s (owner s j) ≢ 13 → role s j ≡ built
+  pub leaf-built : (j : ℕ) → j ≢ 0 → j < count_of s → role s (owner s j) ≡ Built → is_fold (kind s (owner s j)) ≡ false → kind s (owner s j) ≢ 13 → role s j ≡ Built
   unfolding role_in
   leaf-built j d h r k n = role_under j d h r ∙ rw (k, ne_eqb (kind s (owner s j)) 13 n)
 
-  pub other-played : (j : ℕ) → j ≢ 0 → j < count_of s → role s (owner s j) ≡ built → kind s (owner s j) ≢ 13 → is_played (role s j) ≡ true
+  pub other-played : (j : ℕ) → j ≢ 0 → j < count_of s → role s (owner s j) ≡ Built → kind s (owner s j) ≢ 13 → is_played (role s j) ≡ true
   other-played j d h r n = ap is_played (role_under j d h r) ∙ played-other (kind s (owner s j)) (is_processor (kind s j)) (trailing s j) n
 
   -- what is played follows what is played
@@ -245,5 +247,5 @@ module _ (s : List ℕ) (g : Good s) where
       o : owner s (next s i) ≡ owner s i
       o = owner-next s g i (next s i) refl n
 
-      r : role s (owner s i) ≡ built
+      r : role s (owner s i) ≡ Built
       r = played-owner i d (next-inside s g i n) e

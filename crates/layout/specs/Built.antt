@@ -6,6 +6,8 @@ use Rattle.sheet.specs.Record.{count_of, kind, first, next}
 use Rattle.sheet.specs.Kinds.{is_processor, is_fold}
 use Rattle.sheet.specs.Tree.{records, spine}
 use Rattle.sheet.specs.Checks.{every}
+use Rattle.layout.specs.declared.Role.{Role}
+use Rattle.layout.specs.declared.Role.TheVariants.{Out, Silent, Built}
 
 -- the lowest i below n of which p holds, and n where there is none
 unfoldable pub find : (ℕ → Bool) → ℕ → ℕ
@@ -31,21 +33,15 @@ processors s t = every (λ j. is_processor (kind s j)) (spine t)
 unfoldable pub trailing : List ℕ → ℕ → Bool
 trailing s j = processors s (records s (next s j))
 
--- out: neither built nor played; silent: a processor in a source's place, which plays silence; built
-pub data Role : Type 0 where
-  out : Role
-  silent : Role
-  built : Role
-
 -- by the role of the record in whose chain it stands, and that record's kind
 unfoldable pub role_in : Role → ℕ → Bool → Bool → Role
-role_in out k processor last = out
-role_in silent k processor last = out
-role_in built k processor last = cond (is_fold k) (cond processor silent built) (cond (eqb k 13) (cond last built out) built)
+role_in Out k processor last = Out
+role_in Silent k processor last = Out
+role_in Built k processor last = cond (is_fold k) (cond processor Silent Built) (cond (eqb k 13) (cond last Built Out) Built)
 
 -- record 0 is in a source's place; any other record's owner is lower, so j steps are enough
 abbrev pub root_role : List ℕ → Role
-root_role s = cond (is_processor (kind s 0)) silent built
+root_role s = cond (is_processor (kind s 0)) Silent Built
 
 unfoldable pub role_by : List ℕ → ℕ → ℕ → Role
 role_by s zero j = root_role s
@@ -55,14 +51,14 @@ unfoldable pub role : List ℕ → ℕ → Role
 role s j = role_by s j j
 
 abbrev pub is_built : Role → Bool
-is_built out = false
-is_built silent = false
-is_built built = true
+is_built Out = false
+is_built Silent = false
+is_built Built = true
 
 abbrev pub is_played : Role → Bool
-is_played out = false
-is_played silent = true
-is_played built = true
+is_played Out = false
+is_played Silent = true
+is_played Built = true
 
 -- the first stage of a chain after which there are processors only, 0 in an empty chain
 unfoldable pub stage : List ℕ → Tree → ℕ

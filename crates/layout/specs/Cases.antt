@@ -4,7 +4,8 @@ use Rattle.sheet.specs.Kinds.{lookup}
 use Rattle.sheet.specs.Tree.{spine, depth}
 use Rattle.sheet.specs.Checks.{all, every, length_ok, header_ok, record_ok, link_ok, links_ok, hit, sum, links_to, once_ok, holds, chain_ok, depth_ok, lowest, check_of}
 use Rattle.tree.specs.Forest.{whole, root}
-use Rattle.layout.specs.Built.{find, linker, owner_by, owner, processors, trailing, role_in, role_by, role, out, silent, built, stage, begin, after}
+use Rattle.layout.specs.Built.{find, linker, owner_by, owner, processors, trailing, role_in, role_by, role, stage, begin, after}
+use Rattle.layout.specs.declared.Role.TheVariants.{Out, Silent, Built}
 use Rattle.layout.specs.Needs.{need_of, cells_by, registers_by, scratch_by, cells_from, registers_from, scratch_from}
 
 -- rate 8,000, n 0, path 0; a record by its kind, first and next, all else zero
@@ -34,7 +35,7 @@ partly-accepted : check_of partly ≡ 0
 unfolding partly header entry check_of lowest all every length_ok header_ok record_ok lookup link_ok links_ok hit sum links_to once_ok holds chain_ok depth_ok spine depth whole root
 partly-accepted = refl
 
-partly-roles : (role partly 1 ≡ silent) × (role partly 2 ≡ out) × (role partly 4 ≡ out) × (role partly 8 ≡ built)
+partly-roles : (role partly 1 ≡ Silent) × (role partly 2 ≡ Out) × (role partly 4 ≡ Out) × (role partly 8 ≡ Built)
 unfolding partly header entry find linker owner_by owner every processors trailing role_in role_by role spine whole
 partly-roles = (refl, refl, refl, refl)
 

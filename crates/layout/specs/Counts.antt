@@ -1,19 +1,21 @@
 -- The needs by numbers alone, as the code works them out: a row for each kind that needs some.
 use Rattle.std.specs.Prelude.{◌≡◌, refl, Bool, true, false, cond, List, [], ◌∷◌, ◌≢◌, ℕ, zero, suc, ◌+◌, ◌*◌, ◌≤◌, ◌<◌, get_or, set}
-use Rattle.std.proofs.Common.{sym, ◌∙◌, arith, ne_eqb, length-set}
+use Rattle.std.proofs.Common.{sym, ◌∙◌, arith, length-set}
 use Rattle.std.proofs.Math.Path.{ap}
 use Rattle.std.proofs.Math.Decide.{ℕ_discrete}
 use Rattle.std.proofs.Math.ListN.{length}
 use Rattle.tree.specs.Flat.{Layout, Rows}
-use Rattle.sheet.specs.Record.{count_of, rate_of, option_of, number_of, record_at, kind, first, next}
+use Rattle.sheet.specs.Record.{count_of, rate_of, option_of, number_of, record_at, kind, next}
 use Rattle.sheet.specs.Tree.{records, spine}
 use Rattle.sheet.specs.Checks.{sum}
 use Rattle.sheet.specs.Laws.{sum-suc}
 use Rattle.lines.specs.Lines.{delay_line, chorus_line}
-use Rattle.layout.specs.Built.{role, built, is_built}
+use Rattle.layout.specs.Built.{role, is_built}
+use Rattle.layout.specs.declared.Role.{Role}
+use Rattle.layout.specs.declared.Role.TheVariants.{Built}
 use Rattle.layout.specs.Needs.{Need, needs, need_of, voices_of, noise_cells, reverb_cells, chain_length, cells_by, registers_by, scratch_by, cells, registers, scratch, cells_from, registers_from, scratch_from}
 use Rattle.layout.specs.Good.{Good, good}
-use Rattle.layout.specs.Tables.{Table, Passed, role_code, code_role, role-code, code-unbuilt, code-built, next-entry, Below, front-more}
+use Rattle.layout.specs.Tables.{Table, Passed, next-entry, Below, front-more}
 use Rattle.layout.specs.Owners.{records-none, records-some, along}
 
 -- ---- cells: the rows, with what Super, Noise, Delay, Reverb, Modal and Chorus need
@@ -30,11 +32,6 @@ cells_with r rate k m =
 pub cells-with : (s : List ℕ) (i : ℕ) → cells_by s i ≡ cells_with (record_at s i) (rate_of s) (kind s i) (chain_length s i)
 unfolding cells_by
 cells-with s i = refl
-
-pub noise-other : (c : ℕ) → c ≢ 0 → c ≢ 1 → noise_cells c ≡ 1
-noise-other zero a b = absurd (a refl)
-noise-other (suc zero) a b = absurd (b refl)
-noise-other (suc (suc c)) a b = refl
 
 abbrev pub register_rows : List Need
 register_rows = needs 9 1 ∷ needs 10 1 ∷ needs 29 1 ∷ needs 30 10 ∷ needs 34 1 ∷ needs 46 1 ∷ []
@@ -56,62 +53,37 @@ pub scratch-with : (s : List ℕ) (i : ℕ) → scratch_by s i ≡ scratch_with 
 unfolding scratch_by
 scratch-with s i = refl
 
--- a kind without a row, or Modal without modes
-pub cells-other : (k v c d b h : ℕ) → 1 ≢ k → 2 ≢ k → 3 ≢ k → 4 ≢ k → 5 ≢ k → 6 ≢ k → 9 ≢ k → 10 ≢ k → 22 ≢ k → 23 ≢ k → 24 ≢ k → 25 ≢ k → 26 ≢ k → 27 ≢ k → 28 ≢ k → 29 ≢ k → 30 ≢ k → 32 ≢ k → 34 ≢ k → 35 ≢ k → 46 ≢ k → 0 ≡ need_of k (cell_rows v c d b 0 h)
-unfolding need_of
-cells-other k v c d b h n1 n2 n3 n4 n5 n6 n9 n10 n22 n23 n24 n25 n26 n27 n28 n29 n30 n32 n34 n35 n46 = elim (ℕ_discrete 31 k) [
-  | yes q ↦ ap (λ k. need_of k (cell_rows v c d b 0 h)) q
-  | no n31 ↦ rw (ne_eqb 1 k n1, ne_eqb 2 k n2, ne_eqb 3 k n3, ne_eqb 4 k n4, ne_eqb 5 k n5, ne_eqb 6 k n6, ne_eqb 9 k n9, ne_eqb 10 k n10, ne_eqb 22 k n22, ne_eqb 23 k n23, ne_eqb 24 k n24, ne_eqb 25 k n25, ne_eqb 26 k n26, ne_eqb 27 k n27, ne_eqb 28 k n28, ne_eqb 29 k n29, ne_eqb 30 k n30, ne_eqb 31 k n31, ne_eqb 32 k n32, ne_eqb 34 k n34, ne_eqb 35 k n35, ne_eqb 46 k n46)
-]
-
--- a chain's length counts for Modal only
-no-modes : (k : ℕ) → 31 ≢ k → (r : List ℕ) (rate m n : ℕ) → cells_with r rate k m ≡ cells_with r rate k n
-unfolding need_of
-no-modes k d r rate m n = rw (ne_eqb 31 k d)
-
 -- a built record's needs are its kind's
-is-built : (s : List ℕ) (i r : ℕ) → r ≡ role_code (role s i) → 2 ≤ r → role s i ≡ built
-is-built s i r er h = sym (role-code (role s i)) ∙ ap code_role (sym er) ∙ code-built r h
-
-pub cells-built : (s : List ℕ) (i : ℕ) → role s i ≡ built → cells s i ≡ cells_by s i
+pub cells-built : (s : List ℕ) (i : ℕ) → role s i ≡ Built → cells s i ≡ cells_by s i
 cells-built s i r = rw r
 
-pub registers-built : (s : List ℕ) (i : ℕ) → role s i ≡ built → registers s i ≡ registers_by s i
+pub registers-built : (s : List ℕ) (i : ℕ) → role s i ≡ Built → registers s i ≡ registers_by s i
 registers-built s i r = rw r
 
-pub cells-some : (s : List ℕ) (i r : ℕ) → r ≡ role_code (role s i) → 2 ≤ r → cells s i ≡ cells_by s i
-cells-some s i r er h = cells-built s i (is-built s i r er h)
+pub cells-some : (s : List ℕ) (i k : ℕ) → k ≡ kind s i → role s i ≡ Built → cells_with (record_at s i) (rate_of s) k (chain_length s i) ≡ cells s i
+cells-some s i k e b = rw (e, b, cells-with s i)
 
-pub registers-some : (s : List ℕ) (i k r : ℕ) → k ≡ kind s i → r ≡ role_code (role s i) → 2 ≤ r → registers_with k ≡ registers s i
-registers-some s i k r ek er h = rw (ek, is-built s i r er h, registers-with s i)
+pub registers-some : (s : List ℕ) (i k : ℕ) → k ≡ kind s i → role s i ≡ Built → registers_with k ≡ registers s i
+registers-some s i k e b = rw (e, b, registers-with s i)
 
-pub scratch-some : (s : List ℕ) (i k r : ℕ) → k ≡ kind s i → r ≡ role_code (role s i) → 2 ≤ r → scratch_with k ≡ scratch s i
-scratch-some s i k r ek er h = rw (ek, is-built s i r er h, scratch-with s i)
-
-pub cells-made : (s : List ℕ) (i k rate x : ℕ) (part : List ℕ) → part ≡ record_at s i → rate ≡ rate_of s → k ≡ kind s i → k ≢ 31 → x ≡ cells_with part rate k 0 → x ≡ cells_by s i
-cells-made s i k rate x part ep et ek d e =
-    e ∙ ap (λ p. cells_with p rate k 0) ep ∙ ap (λ t. cells_with (record_at s i) t k 0) et ∙ ap (λ k. cells_with (record_at s i) (rate_of s) k 0) ek ∙ no-modes (kind s i) (λ q. d (ek ∙ sym q)) (record_at s i) (rate_of s) 0 (chain_length s i) ∙ sym (cells-with s i)
-
-pub modal-made : (s : List ℕ) (i k f n : ℕ) → k ≡ kind s i → f ≡ first s i → k ≡ 31 → n ≡ length (spine (records s f)) → 5 * n ≡ cells_by s i
-unfolding need_of
-modal-made s i k f n ek ef z en =
-    ap (λ m. 5 * m) (en ∙ ap (λ f. length (spine (records s f))) ef) ∙ ap (λ k. cells_with (record_at s i) (rate_of s) k (chain_length s i)) (sym z ∙ ek) ∙ sym (cells-with s i)
+pub scratch-some : (s : List ℕ) (i k : ℕ) → k ≡ kind s i → role s i ≡ Built → scratch_with k ≡ scratch s i
+scratch-some s i k e b = rw (e, b, scratch-with s i)
 
 -- ---- what needs nothing: a kind, and a record by its kind and its role
 abbrev pub Bare : ℕ → Type 0
 Bare k = ((r : List ℕ) (rate m : ℕ) → cells_with r rate k m ≡ 0) × (registers_with k ≡ 0) × (scratch_with k ≡ 0)
 
-abbrev pub Unowning : ℕ → ℕ → Type 0
-Unowning k r = (s : List ℕ) (i : ℕ) → k ≡ kind s i → r ≡ role_code (role s i) → (cells s i ≡ 0) × (registers s i ≡ 0) × (scratch s i ≡ 0)
+abbrev pub Unowning : ℕ → Role → Type 0
+Unowning k r = (s : List ℕ) (i : ℕ) → k ≡ kind s i → r ≡ role s i → (cells s i ≡ 0) × (registers s i ≡ 0) × (scratch s i ≡ 0)
 
 nothing : (b : Bool) (n : ℕ) → n ≡ 0 → cond b n 0 ≡ 0
 nothing true n e = e
 nothing false n e = refl
 
-pub none-unbuilt : (k r : ℕ) → r < 2 → Unowning k r
-none-unbuilt k r h s i ek er = let e : is_built (role s i) ≡ false = ap is_built (sym (role-code (role s i)) ∙ ap code_role (sym er)) ∙ code-unbuilt r h in (rw e, rw e, rw e)
+pub none-unbuilt : (k : ℕ) (r : Role) → is_built r ≡ false → Unowning k r
+none-unbuilt k r h s i ek er = let e : is_built (role s i) ≡ false = ap is_built (sym er) ∙ h in (rw e, rw e, rw e)
 
-pub none_bare : (k r : ℕ) → Bare k → Unowning k r
+pub none_bare : (k : ℕ) (r : Role) → Bare k → Unowning k r
 none_bare k r w s i ek er =
     let b = is_built (role s i) in
     let c = cells-with s i ∙ ap (λ k. cells_with (record_at s i) (rate_of s) k (chain_length s i)) (sym ek) ∙ w.0 (record_at s i) (rate_of s) (chain_length s i) in

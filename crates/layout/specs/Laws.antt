@@ -4,12 +4,10 @@ use Rattle.tree.specs.Tree.{In, Apart}
 use Rattle.tree.specs.Forest.{Forest}
 use Rattle.tree.specs.Flat.{Rows}
 use Rattle.sheet.specs.Record.{count_of}
-use Rattle.sheet.specs.Checks.{check_of}
 use Rattle.layout.specs.Built.{role, is_played, begin, after}
 use Rattle.layout.specs.Needs.{cells, registers, scratch, cells_from, registers_from, scratch_from}
-use Rattle.layout.specs.Good.{good}
 use Rattle.layout.specs.Played.{played_tree}
-use Rattle.layout.specs.Counts.{layout_of, rows_of, sum-above, cells-within, registers-within, scratch-within}
+use Rattle.layout.specs.Counts.{layout_of}
 
 -- ---- what is played, and where its parts lie
 pub record Playable (s : List ℕ) : Type 0 where

@@ -1,20 +1,28 @@
 -- Tables of what the definitions say of each record, and a turn of each loop that writes one.
-use Rattle.std.specs.Prelude.{◌≡◌, refl, Bool, true, false, cond, ◌&&◌, List, ◌≢◌, ℕ, zero, suc, ◌+◌, ◌-◌, ◌*◌, ◌≤◌, ◌<◌, eqb, length, get_or, set}
-use Rattle.std.proofs.Common.{sym, ap, ◌∙◌, inl, inr, arith, eq-eqb, ne_eqb, length-set, get_or-set_same, get_or-set_other}
+use Rattle.std.specs.Prelude.{◌≡◌, refl, Bool, true, false, cond, List, ◌≢◌, ℕ, zero, suc, ◌+◌, ◌-◌, ◌*◌, ◌≤◌, ◌<◌, map, length, get_or, set}
+use Rattle.std.proofs.Common.{sym, ap, ◌∙◌, inl, inr, arith, length-set, get_or-set_same, get_or-set_other}
+use Rattle.std.proofs.lemmas.List.{get_or-map, length-map}
 use Rattle.std.proofs.Math.Decide.{ℕ_discrete}
 use Rattle.sheet.specs.Record.{count_of, rate_of, kind, first, next}
-use Rattle.sheet.specs.Kinds.{is_processor}
 use Rattle.sheet.specs.Checks.{check_of}
 use Rattle.sheet.specs.Links.{Tables}
-use Rattle.layout.specs.Built.{linker, owner, trailing, Role, out, silent, built, role_in, role, is_built, is_played, begin, after}
+use Rattle.layout.specs.Built.{linker, owner}
+use Rattle.layout.specs.declared.Role.{Role}
+use Rattle.layout.specs.declared.Role.TheVariants.{Out, Silent, Built}
 use Rattle.layout.specs.Good.{Good, good}
 use Rattle.layout.specs.Owners.{linker-links, linker-below, owner-first, owner-next, owner-root, owner-below}
-use Rattle.layout.specs.Roles.{stage_from}
 
 -- t holds f of every index below n
 pub record Table (f : ℕ → ℕ) (n : ℕ) (t : List ℕ) : Type 0 where
   pub long : n ≤ length t
   pub at : (i : ℕ) → i < n → get_or t i 0 ≡ f i
+
+-- a table of what stands for numbers, and its entries
+pub long-of : {A : Type 0} (f : A → ℕ) {g : ℕ → ℕ} {n : ℕ} (t : List A) → Table g n (map f t) → n ≤ length t
+long-of f t w = omega (arith, w.long, length-map t f)
+
+pub entry-of : {A : Type 0} (f : A → ℕ) {g : ℕ → ℕ} {n : ℕ} (t : List A) → Table g n (map f t) → (i : ℕ) → i < n → (d : A) → f (get_or t i d) ≡ g i
+entry-of f t w i h d = sym (get_or-map f t i d 0 (omega (arith, long-of f t w))) ∙ w.at i h
 
 -- a sheet of n records that no check refuses
 pub record Passed (s : List ℕ) (n : ℕ) : Type 0 where
@@ -35,80 +43,56 @@ accept s n e c = let g = good s e in record {
   fast = g.fastest;
 }
 
--- the tables that the checks leave
-pub held : {s ks fs ns : List ℕ} → Tables s ks fs ns → (n : ℕ) → n ≡ count_of s → n ≤ length ks → n ≤ length fs → n ≤ length ns → Table (kind s) n ks × Table (first s) n fs × Table (next s) n ns
-held t n e k f x = (
-  record { long = k; at = λ i h. t.kind_at i (omega arith) },
-  record { long = f; at = λ i h. t.first_at i (omega arith) },
-  record { long = x; at = λ i h. t.next_at i (omega arith) },
-)
+-- the tables that the checks leave of it: the kind of each record, and its links
+pub record Listed (s : List ℕ) (n : ℕ) (kinds firsts nexts : List ℕ) : Type 0 where
+  pub passed : Passed s n
+  pub kind_at : Table (kind s) n kinds
+  pub first_at : Table (first s) n firsts
+  pub next_at : Table (next s) n nexts
+
+pub listed-by : {s ks fs ns : List ℕ} (n : ℕ) → Passed s n → Tables s ks fs ns → n ≤ length ks → n ≤ length fs → n ≤ length ns → Listed s n ks fs ns
+listed-by n a t k f x = record {
+  passed = a;
+  kind_at = record { long = k; at = λ i h. t.kind_at i (omega (arith, a.count)) };
+  first_at = record { long = f; at = λ i h. t.first_at i (omega (arith, a.count)) };
+  next_at = record { long = x; at = λ i h. t.next_at i (omega (arith, a.count)) };
+}
 
 -- numbers for answers: 1 where it is so; 0 out, 1 silent, 2 built
 abbrev pub flag : Bool → ℕ
 flag b = cond b 1 0
 
+pub flag-same : (a b : Bool) → flag a ≡ flag b → a ≡ b
+flag-same true true e = refl
+flag-same true false e = let x : ⊥ = omega (arith, e) in absurd x
+flag-same false true e = let x : ⊥ = omega (arith, e) in absurd x
+flag-same false false e = refl
+
+-- a table of tests by their flags
+abbrev pub flags_of : List Bool → List ℕ
+flags_of bs = map flag bs
+
 abbrev pub role_code : Role → ℕ
-role_code out = 0
-role_code silent = 1
-role_code built = 2
+role_code Out = 0
+role_code Silent = 1
+role_code Built = 2
 
 abbrev pub code_role : ℕ → Role
-code_role zero = out
-code_role (suc zero) = silent
-code_role (suc (suc k)) = built
+code_role zero = Out
+code_role (suc zero) = Silent
+code_role (suc (suc k)) = Built
+
+-- a table of roles by their codes
+abbrev pub roles_of : List Role → List ℕ
+roles_of rs = map role_code rs
 
 pub role-code : (r : Role) → code_role (role_code r) ≡ r
-role-code out = refl
-role-code silent = refl
-role-code built = refl
+role-code Out = refl
+role-code Silent = refl
+role-code Built = refl
 
-pub code-low : (r : ℕ) → r < 2 → (k : ℕ) (p l : Bool) → role_in (code_role r) k p l ≡ out
-unfolding role_in
-code-low zero h k p l = refl
-code-low (suc zero) h k p l = refl
-code-low (suc (suc r)) h k p l = let x : ⊥ = omega arith in absurd x
-
-pub code-unbuilt : (r : ℕ) → r < 2 → is_built (code_role r) ≡ false
-code-unbuilt zero h = refl
-code-unbuilt (suc zero) h = refl
-code-unbuilt (suc (suc r)) h = let x : ⊥ = omega arith in absurd x
-
-pub code-built : (r : ℕ) → 2 ≤ r → code_role r ≡ built
-code-built zero h = let x : ⊥ = omega arith in absurd x
-code-built (suc zero) h = let x : ⊥ = omega arith in absurd x
-code-built (suc (suc r)) h = refl
-
-pub code-played : (r : ℕ) → r ≢ 0 → is_played (code_role r) ≡ true
-code-played zero h = absurd (h refl)
-code-played (suc zero) h = refl
-code-played (suc (suc r)) h = refl
-
-pub flag_is : (b : Bool) → eqb (flag b) 1 ≡ b
-flag_is true = refl
-flag_is false = refl
-
--- ---- what a turn works out, by numbers alone
-abbrev pub trails_of : ℕ → ℕ → ℕ → ℕ
-trails_of n k t = cond (eqb n 0) 1 (cond (is_processor k) t 0)
-
-abbrev pub stage_of : ℕ → ℕ → ℕ → ℕ
-stage_of t j f = cond (eqb t 1) j f
-
-abbrev pub role_of : ℕ → ℕ → ℕ → ℕ → ℕ
-role_of r o k t = role_code (role_in (code_role r) o (is_processor k) (eqb t 1))
-
-abbrev pub root_of : ℕ → ℕ
-root_of k = cond (is_processor k) 1 2
-
-abbrev pub begin_of : ℕ → ℕ → ℕ → ℕ → ℕ
-begin_of r k f st = cond (is_built (code_role r)) (cond (eqb k 13) st f) 0
-
-abbrev pub after_of : ℕ → ℕ → ℕ
-after_of r n = cond (is_played (code_role r)) n 0
-
-pub root-code : (b : Bool) → cond b 1 2 ≡ role_code (cond b silent built)
-root-code true = refl
-root-code false = refl
+pub role-same : (r q : Role) → role_code r ≡ role_code q → r ≡ q
+role-same r q e = sym (role-code r) ∙ ap code_role e ∙ role-code q
 
 -- ---- tables from the front and from the back
 abbrev pub Below : (ℕ → ℕ) → ℕ → List ℕ → Type 0

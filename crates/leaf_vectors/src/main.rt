@@ -4,18 +4,18 @@
 
 mod leaves;
 
-use leaves::{LEAVES, answer};
+use leaves::{cast_sections, float_sections, last_sections};
 use std::io;
-use std::io::{BufReader, BufWriter, Write};
+use std::io::{BufReader, BufWriter};
+use vectors::AnswerFile;
 
 fn main(rt: HostRuntime) -> io::Result<()> {
-    let mut input = BufReader::new(rt.alloc(), rt.stdin())?;
-    let mut output = BufWriter::new(rt.alloc(), rt.stdout())?;
-    vectors::compare(
-        &mut input,
-        &mut output,
-        LEAVES,
-        |place, _, x| answer(place, x),
-    )?;
-    output.flush()
+    let input = BufReader::new(rt.alloc(), rt.stdin())?;
+    let output = BufWriter::new(rt.alloc(), rt.stdout())?;
+    let mut file = AnswerFile::new(input, output);
+    float_sections(&mut file)?;
+    cast_sections(&mut file)?;
+    last_sections(&mut file)?;
+    file.end()?;
+    Ok(())
 }

@@ -1,10 +1,14 @@
-// The processors that read and write a line, over a block, in place. The line's place stays below its length.
+// The processors that read and write a line, over a block, in place. The line's place stays below its length. The two are no struct:
+// behind a reference to one its slice may be replaced, and each contract would say that it was not. The buffers are as long as the
+// block and stay apart from it: the samples, the LFO's sines and the line are three slices in the caller's memory. As
+// in `value_block`, a clause says that the positions fit.
 #![tactic(auto)]
 
 ghost use Rattle.std.specs.Prelude.{◌≡◌, ◌+◌, ◌^◌, ◌≤◌, ◌<◌, length};
 ghost use Rattle.block.specs.Iterate.{given, after};
 ghost use Rattle.line_block.specs.Steps.{delay_step, chorus_step, chorus_by_step};
 
+#[tactic(auto, using(proc_block::proofs::Whole::loops))]
 pub fn delay_block(out: &mut [f32], line: &mut [f32], feedback: f32, place: u64) -> u64
     requires { place < length line.old }
     ensures { (out.new ≡ given (delay_step out.old feedback (length line.old)) (line.old, place) (length out.old)) × ((line.new, result) ≡ after (delay_step out.old feedback (length line.old)) (line.old, place) (length out.old)) × (result < length line.new) }
@@ -30,6 +34,7 @@ pub struct Chorus {
     pub mix: f32,
 }
 
+#[tactic(auto, using(proc_block::proofs::Whole::loops))]
 fn chorus_by(out: &mut [f32], sines: &[f32], line: &mut [f32], c: Chorus, place: u64) -> u64
     requires { (place < length line.old) × (length out.old ≤ length sines.now) }
     ensures { (out.new ≡ given (chorus_by_step out.old sines.now c.base c.swing c.mix (length line.old)) (line.old, place) (length out.old)) × ((line.new, result) ≡ after (chorus_by_step out.old sines.now c.base c.swing c.mix (length line.old)) (line.old, place) (length out.old)) × (result < length line.new) }
@@ -46,22 +51,6 @@ fn chorus_by(out: &mut [f32], sines: &[f32], line: &mut [f32], c: Chorus, place:
     w
 }
 
-fn chorus_in(
-    out: &mut [f32],
-    sines: &mut [f32],
-    line: &mut [f32],
-    c: Chorus,
-    srf: f32,
-    t: u64,
-    place: u64,
-) -> u64
-    requires { (place < length line.old) × (t + length out.old < 2 ^ 64) × (length sines.old ≡ length out.old) }
-    ensures { (out.new ≡ given (chorus_step out.old c.base c.swing c.rate srf c.mix (length line.old) t) (line.old, place) (length out.old)) × ((line.new, result) ≡ after (chorus_step out.old c.base c.swing c.rate srf c.mix (length line.old) t) (line.old, place) (length out.old)) × (result < length line.new) }
-{
-    proc_block::lfo_block(sines, c.rate, srf, t);
-    chorus_by(out, sines, line, c, place)
-}
-
 // srf is the sample rate, and t the position of the first sample.
 pub fn chorus_block(
     out: &mut [f32],
@@ -75,6 +64,7 @@ pub fn chorus_block(
     requires { (place < length line.old) × (t + length out.old < 2 ^ 64) × (length out.old ≤ length buf.old) }
     ensures { (out.new ≡ given (chorus_step out.old c.base c.swing c.rate srf c.mix (length line.old) t) (line.old, place) (length out.old)) × ((line.new, result) ≡ after (chorus_step out.old c.base c.swing c.rate srf c.mix (length line.old) t) (line.old, place) (length out.old)) × (result < length line.new) }
 {
-    let n = out.len();
-    chorus_in(out, &mut buf[..n], line, c, srf, t, place)
+    let sines = &mut buf[..out.len()];
+    proc_block::lfo_block(sines, c.rate, srf, t);
+    chorus_by(out, sines, line, c, place)
 }

@@ -4,7 +4,7 @@
 ghost use Rattle.std.specs.Prelude.{◌≡◌, ◌%◌, ◌<◌};
 ghost use Rattle.line_step.specs.Line.{delay_of, next_place, comb_of, allpass_of, reverb_mix, chorus_place, chorus_read, chorus_of};
 
-// Two places of the line and how far between them.
+// Two places of the line and how far between them. An array of the two would be read by index, and say no more.
 #[derive(Clone, Copy)]
 pub struct ChorusRead {
     pub i0: u64,

@@ -1,4 +1,6 @@
 // A block of the record of a processor with lines, in place: Delay, Chorus and Reverb on what the record owns.
+// The block, the buffer, the cells and the registers stay slices of their own, as in `proc_unit`; what a record owns is a part of the voice's memory, so each
+// contract says how long it is.
 #![tactic(auto)]
 
 ghost use Rattle.std.specs.Prelude.{◌≡◌, [], ℕ, ◌+◌, ◌^◌, ◌≤◌, ◌<◌, length, pos};
@@ -15,27 +17,29 @@ ghost use Rattle.block.specs.Iterate.{word};
 ghost use Rattle.unit.specs.Processors.{delay_unit, reverb_unit, chorus_unit};
 ghost use Rattle.unit.specs.Block.{Ran};
 
-pub fn delay(r: &[u8], out: &mut [f32], cells: &mut [f32], regs: &mut [u64])
-    requires { (40 ≤ length r.now) × (length regs.old ≡ 1) × (word regs.old 0 < length cells.old) }
+use sheet::Record;
+
+pub fn delay(r: &Record, out: &mut [f32], cells: &mut [f32], regs: &mut [u64])
+    requires { (length regs.old ≡ 1) × (word regs.old 0 < length cells.old) }
     ensures { (c : Controls) → Ran (delay_unit (number_of r.now 1)) c [] out.old cells.old regs.old out.new cells.new regs.new }
 {
-    let feedback = sheet::number(r, 1);
+    let feedback = r.number(1);
     let place = regs[0];
     let w = line_block::delay_block(out, cells, feedback, place);
     regs[0] = w;
 }
 
-fn reverb_lines(r: &[u8], lens: &[u64], out: &mut [f32], cells: &mut [f32], regs: &mut [u64])
-    requires { (40 ≤ length r.now) × Placed lens.now regs.old × (length cells.old ≡ line_from lens.now 10 + 6) }
+fn reverb_lines(r: &Record, lens: &[u64], out: &mut [f32], cells: &mut [f32], regs: &mut [u64])
+    requires { Placed lens.now regs.old × (length cells.old ≡ line_from lens.now 10 + 6) }
     ensures { (c : Controls) (sr : ℕ) → lens.now ≡ reverb_lines sr → Ran (reverb_unit (feedback_of (number_of r.now 0)) (clamp_of (number_of r.now 1) zero one) sr) c [] out.old cells.old regs.old out.new cells.new regs.new }
 {
-    let feedback = dsp::freeverb_feedback(sheet::number(r, 0));
-    let mix = float::clamp(sheet::number(r, 1), 0.0, 1.0);
+    let feedback = dsp::freeverb_feedback(r.number(0));
+    let mix = float::clamp(r.number(1), 0.0, 1.0);
     reverb_block::reverb_block(out, feedback, mix, lens, cells, regs);
 }
 
-pub fn reverb(r: &[u8], sr: u32, out: &mut [f32], cells: &mut [f32], regs: &mut [u64])
-    requires { (40 ≤ length r.now) × (sr ≤ 192000) × (length cells.old ≡ line_from (reverb_lines sr) 10 + 6) × Placed (reverb_lines sr) regs.old }
+pub fn reverb(r: &Record, sr: u32, out: &mut [f32], cells: &mut [f32], regs: &mut [u64])
+    requires { (sr ≤ 192000) × (length cells.old ≡ line_from (reverb_lines sr) 10 + 6) × Placed (reverb_lines sr) regs.old }
     ensures { (c : Controls) → Ran (reverb_unit (feedback_of (number_of r.now 0)) (clamp_of (number_of r.now 1) zero one) sr) c [] out.old cells.old regs.old out.new cells.new regs.new }
 {
     let lens = lines::reverb_lens_apart(sr);
@@ -43,7 +47,7 @@ pub fn reverb(r: &[u8], sr: u32, out: &mut [f32], cells: &mut [f32], regs: &mut 
 }
 
 pub fn chorus(
-    r: &[u8],
+    r: &Record,
     sr: u32,
     c: control::Controls,
     out: &mut [f32],
@@ -51,14 +55,14 @@ pub fn chorus(
     cells: &mut [f32],
     regs: &mut [u64],
 )
-    requires { (40 ≤ length r.now) × (length regs.old ≡ 1) × (word regs.old 0 < length cells.old) × (c.position + length out.old < 2 ^ 64) × (length out.old ≤ length buf.old) }
+    requires { (length regs.old ≡ 1) × (word regs.old 0 < length cells.old) × (c.position + length out.old < 2 ^ 64) × (length out.old ≤ length buf.old) }
     ensures { Ran (chorus_unit (chorus_base sr) (chorus_swing (number_of r.now 1) sr) (number_of r.now 0) (of_int binary32 (pos sr)) (clamp_of (number_of r.now 2) zero one)) c [] out.old cells.old regs.old out.new cells.new regs.new }
 {
     let effect = line_block::Chorus {
         base: lines::chorus_base(sr),
-        swing: lines::chorus_swing(sheet::number(r, 1), sr),
-        rate: sheet::number(r, 0),
-        mix: float::clamp(sheet::number(r, 2), 0.0, 1.0),
+        swing: lines::chorus_swing(r.number(1), sr),
+        rate: r.number(0),
+        mix: float::clamp(r.number(2), 0.0, 1.0),
     };
     let srf = cast::u32_to_f32(sr);
     let place = regs[0];

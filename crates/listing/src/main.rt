@@ -6,10 +6,11 @@ ghost use Rattle.listing.specs.Peak.{higher_of, peak_of};
 
 use control::Controls;
 use refusal::Refusal;
-use std::io;
 use std::io::{Read, Write};
+use std::{fmt, io};
 
-// The larger of the two; a NaN is passed over.
+// The larger of the two; a NaN is passed over. std's `max` promises less: it leaves open which of two zeros it gives; and
+// `float::max` would give the same here by more tests, since a peak is no NaN and no zero with a sign.
 fn higher(p: f32, x: f32) -> f32
     ensures { result ≡ higher_of p x }
 {
@@ -23,34 +24,38 @@ fn peak(out: &[f32]) -> f32
     out.iter().copied().fold(0.0, |p, x| higher(p, x))
 }
 
-// An accepted sheet has 24 bytes and 40 for each record.
-fn records(sheet: &[u8]) -> usize {
-    sheet.len().saturating_sub(24) / 40
+// What is listed of an accepted sheet. The samples are an array, since their number is fixed.
+#[derive(Clone, Copy)]
+struct Listing {
+    records: usize,
+    first_samples: [f32; 8],
 }
 
-fn report(output: &mut impl Write, sheet: &[u8], out: &[f32]) -> io::Result<()> {
-    writeln!(output, "records {}", records(sheet))?;
-    for x in out {
-        writeln!(output, "{:08x}", float::to_bits(*x))?;
+impl Listing {
+    // An accepted sheet has 24 bytes and 40 for each record.
+    fn new(
+        sheet: &[u8],
+        cells: &mut [f32],
+        regs: &mut [u64],
+        scr: &mut [f32],
+    ) -> Result<Listing, Refusal> {
+        let c = player::build(sheet, Controls::fresh(), cells, regs, scr)?;
+        let mut first_samples = [0.0; 8];
+        player::fill(sheet, c, &mut first_samples, cells, regs, scr)?;
+        Ok(Listing {
+            records: sheet.len().saturating_sub(24) / 40,
+            first_samples,
+        })
     }
-    writeln!(output, "peak {:08x}", float::to_bits(peak(out)))
 }
 
-// The first samples of the sheet's voice.
-fn first_samples(sheet: &[u8]) -> Result<[f32; 8], Refusal> {
-    let mut cells = [0.0f32; 8192];
-    let mut regs = [0u64; 256];
-    let mut scr = [0.0f32; 2048];
-    let c = player::build(sheet, Controls::fresh(), &mut cells, &mut regs, &mut scr)?;
-    let mut out = [0.0f32; 8];
-    player::fill(sheet, c, &mut out, &mut cells, &mut regs, &mut scr)?;
-    Ok(out)
-}
-
-fn list(output: &mut impl Write, sheet: &[u8]) -> io::Result<()> {
-    match first_samples(sheet) {
-        Ok(out) => report(output, sheet, &out),
-        Err(refusal) => writeln!(output, "refused {}", refusal.number()),
+impl fmt::Display for Listing {
+    fn fmt<W: fmt::Write>(&self, f: &mut fmt::Formatter<W>) -> fmt::Result {
+        writeln!(f, "records {}", self.records)?;
+        for x in &self.first_samples {
+            writeln!(f, "{:08x}", float::to_bits(*x))?;
+        }
+        write!(f, "peak {:08x}", float::to_bits(peak(&self.first_samples)))
     }
 }
 
@@ -58,5 +63,17 @@ fn list(output: &mut impl Write, sheet: &[u8]) -> io::Result<()> {
 fn main(rt: HostRuntime) -> io::Result<()> {
     let mut sheet = Vec::new(rt.alloc());
     rt.stdin().take(65536).read_to_end(&mut sheet)?;
-    list(&mut rt.stdout(), sheet.as_slice())
+    let mut cells = vec![in rt.alloc(); 0.0f32; 8192]?;
+    let mut regs = vec![in rt.alloc(); 0u64; 256]?;
+    let mut scr = vec![in rt.alloc(); 0.0f32; 2048]?;
+    let listing = Listing::new(
+        sheet.as_slice(),
+        cells.as_mut_slice(),
+        regs.as_mut_slice(),
+        scr.as_mut_slice(),
+    );
+    match listing {
+        Ok(listing) => writeln!(rt.stdout(), "{listing}"),
+        Err(refusal) => writeln!(rt.stdout(), "refused {}", refusal.number()),
+    }
 }

@@ -15,7 +15,9 @@ use Rattle.control.specs.Moves.{fresh}
 use Rattle.sheet.specs.Record.{count_of}
 use Rattle.sheet.specs.Checks.{sum}
 use Rattle.sheet.specs.Laws.{all_of}
-use Rattle.layout.specs.Built.{Role, out, silent, built, role, is_built}
+use Rattle.layout.specs.Built.{role, is_built}
+use Rattle.layout.specs.declared.Role.{Role}
+use Rattle.layout.specs.declared.Role.TheVariants.{Out, Silent, Built}
 use Rattle.layout.specs.Needs.{cells, registers, cells_from, registers_from, scratch_from}
 use Rattle.layout.specs.Counts.{layout_of}
 use Rattle.unit.specs.Own.{Own, silence}
@@ -50,10 +52,10 @@ module _ {A : Type 0} (f : ℕ → List A) (size : ℕ → ℕ) where
   joined-over n h l g = length-append (joined f n) (drop (sum size n) l) ∙ omega (arith, joined_length n h, length-drop (sum size n) l)
 
 -- ---- each record brings as much as it needs
-is-built : (r : Role) → is_built r ≡ true → r ≡ built
-is-built built e = refl
-is-built out e = let z : ◌≡◌ {A = ℕ} 0 1 = cc in let x : ⊥ = omega arith in absurd x
-is-built silent e = let z : ◌≡◌ {A = ℕ} 0 1 = cc in let x : ⊥ = omega arith in absurd x
+is-built : (r : Role) → is_built r ≡ true → r ≡ Built
+is-built Built e = refl
+is-built Out e = let z : ◌≡◌ {A = ℕ} 0 1 = cc in let x : ⊥ = omega arith in absurd x
+is-built Silent e = let z : ◌≡◌ {A = ℕ} 0 1 = cc in let x : ⊥ = omega arith in absurd x
 
 if-built : {A : Type 0} (b : Bool) (l : List A) (n : ℕ) → (b ≡ true → length l ≡ cond b n 0) → length (cond b l []) ≡ cond b n 0
 if-built true l n h = h refl

@@ -15,7 +15,7 @@ use Rattle.control.specs.Moves.{fresh}
 use Rattle.sheet.specs.Record.{count_of}
 use Rattle.sheet.specs.Checks.{sum}
 use Rattle.sheet.specs.Laws.{all_of}
-use Rattle.layout.specs.Built.{Role, out, silent, built, role, is_built}
+use Rattle.layout.specs.Built.{role, is_built}
 use Rattle.layout.specs.Needs.{cells, registers, cells_from, registers_from, scratch_from}
 use Rattle.layout.specs.Counts.{layout_of}
 use Rattle.unit.specs.Own.{Own, silence}

@@ -1,30 +1,41 @@
-// Mix and Mul over a block, on their part of the scratch.
+// Mix and Mul over a block, on their part of the scratch. The scratch is lent whole, with the place where the block begins: between two
+// inputs of a node the inputs write to other parts of it. A block and what is joined to it come from different memory, so they are two slices.
 #![tactic(auto)]
 
 ghost use Rattle.std.specs.Prelude.{◌≡◌, map, ◌+◌, ◌≤◌, length};
 ghost use Rattle.tree.specs.Comm.{zip};
+ghost use Rattle.sheet.specs.Numbers.{fold_number};
 ghost use Rattle.unit.specs.Voice.{join_of, empty_of};
 ghost use Rattle.mixer.specs.Part.{put, mid};
 
-// Mix adds, Mul multiplies.
-fn join(kind: u8, a: f32, b: f32) -> f32
-    ensures { result ≡ join_of kind a b }
+use sheet::kinds::Fold;
+
+#[tactic(auto, unfolding(sheet::specs::Numbers::fold_number))]
+fn join(fold: Fold, a: f32, b: f32) -> f32
+    ensures { result ≡ join_of (fold_number fold) a b }
 {
-    if kind == 12 { a * b } else { a + b }
+    match fold {
+        Fold::Mix => a + b,
+        Fold::Mul => a * b,
+    }
 }
 
 // What no inputs come to.
-pub fn empty(kind: u8) -> f32
-    ensures { result ≡ empty_of kind }
+#[tactic(auto, unfolding(sheet::specs::Numbers::fold_number))]
+pub fn empty(fold: Fold) -> f32
+    ensures { result ≡ empty_of (fold_number fold) }
 {
-    if kind == 12 { 1.0 } else { 0.0 }
+    match fold {
+        Fold::Mix => 0.0,
+        Fold::Mul => 1.0,
+    }
 }
 
-fn join_into(kind: u8, acc: &mut [f32], x: &[f32])
+fn join_into(fold: Fold, acc: &mut [f32], x: &[f32])
     requires { length acc.old ≡ length x.now }
-    ensures { acc.new ≡ zip (join_of kind) acc.old x.now }
+    ensures { acc.new ≡ zip (join_of (fold_number fold)) acc.old x.now }
 {
-    block::run_block(acc, (), |k, s, a| (join(kind, a, x[k]), s));
+    block::run_block(acc, (), |k, s, a| (join(fold, a, x[k]), s));
 }
 
 // The n numbers of the scratch from at on: filled, joined to, and taken.
@@ -36,12 +47,12 @@ pub fn scratch_fill(scr: &mut [f32], at: usize, n: usize, x: f32)
     block::fill_block(&mut scr[at..e], x);
 }
 
-pub fn scratch_join(kind: u8, scr: &mut [f32], at: usize, x: &[f32])
+pub fn scratch_join(fold: Fold, scr: &mut [f32], at: usize, x: &[f32])
     requires { at + length x.now ≤ length scr.old }
-    ensures { scr.new ≡ put at (length x.now) scr.old (zip (join_of kind) (mid at (length x.now) scr.old) x.now) }
+    ensures { scr.new ≡ put at (length x.now) scr.old (zip (join_of (fold_number fold)) (mid at (length x.now) scr.old) x.now) }
 {
     let e = at + x.len();
-    join_into(kind, &mut scr[at..e], x);
+    join_into(fold, &mut scr[at..e], x);
 }
 
 pub fn scratch_take(out: &mut [f32], scr: &[f32], at: usize)

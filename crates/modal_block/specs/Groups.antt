@@ -1,7 +1,7 @@
 -- A group of samples at once: what n modes make of each of them, blended, is what the steps of the block give.
 use Rattle.std.specs.Prelude.{◌≡◌, ℕ, zero, suc, ◌+◌, ◌-◌, ◌≤◌, ◌<◌, List, length, take, drop, set, Float}
 use Rattle.std.proofs.Math.Path.{sym, ap}
-use Rattle.std.proofs.Common.{◌∙◌, add-suc, subst, arith}
+use Rattle.std.proofs.Common.{◌∙◌, le_refl, add-suc, subst, arith}
 use Rattle.std.proofs.lemmas.List.{get_or-take, get_or-drop}
 use Rattle.std.specs.Float.{nan}
 use Rattle.block.specs.Iterate.{at, after, given, given-at, after_more}
@@ -39,6 +39,9 @@ module _ (xs cs : List Float) (mix : Float) (n : ℕ) where
     group-cells (suc j) h =
         (λ i. (modes (input j (omega arith) i) (group-cells j (omega arith) i) n).1)
         ∙ sym (ap (after steps cs) (add-suc k j))
+
+    pub group-end : {zs es : List Float} → es ≡ after (modes_step n x) ds N → Done (k + N) zs → Going nan steps cs xs (k + N) zs es
+    group-end {zs} e d = subst (λ (u : List Float). Going nan steps cs xs (k + N) zs u) (sym (e ∙ group-cells N (le_refl N))) d
 
     pub group-turn : (j : ℕ) → j < N → k + N ≤ length ys → {wet zs : List Float} → wet ≡ given (modes_step n x) ds N → Done (k + j) zs
         → Done (k + (j + 1)) (set zs (k + j) (blend mix (at x j) (at wet j)))

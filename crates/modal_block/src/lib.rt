@@ -1,4 +1,7 @@
-// Modal over a block: the modes stay in the record's own cells.
+// Modal over a block: the modes stay in the record's own cells. n is a parameter beside them, since the contract lets a record own
+// more cells than its n modes have.
+// `after` does not say that the cells stay as many, so it is said beside it.
+// The mix is the record's and the cells its memory: a struct of them would be made for one call.
 #![tactic(auto)]
 
 ghost use Rattle.std.specs.Prelude.{◌≡◌, ◌+◌, ◌*◌, ◌≤◌, ◌<◌, List, length, Float};
@@ -8,7 +11,8 @@ ghost use Rattle.block.specs.Loop.{Going};
 ghost use Rattle.modal_block.specs.Modal.{mode_at, put_mode, modal_step};
 ghost use Rattle.modal_block.specs.Modes.{modes_step};
 
-// Mode k of a bank: five cells, a1 a2 b0 y1 y2. A slice pattern would have to refuse the lengths that the contract rules out.
+// Mode k of a bank: five cells, a1 a2 b0 y1 y2. Here and in put_mode a slice pattern would have to refuse the lengths that the
+// contract rules out.
 fn mode_at(cells: &[f32], k: usize) -> proc::Mode
     requires { 5 * k + 4 < length cells.now }
     ensures { result ≡ mode_at cells.now k }
@@ -48,7 +52,8 @@ fn modes<const N: usize>(cells: &mut [f32], n: usize, x: [f32; N]) -> [f32; N]
     wet
 }
 
-// N samples from the k-th on, where those before are done: xs and cs are what the block began with.
+// N samples from the k-th on, where those before are done: xs and cs are what the block began with. It takes the block and k, since
+// what is done is said of the whole block, and a part of it would have to be put back first.
 fn modal_at<const N: usize>(out: &mut [f32], k: usize, mix: f32, n: usize, cells: &mut [f32])
     requires { (k + N ≤ length out.old) × (5 * n ≤ length cells.old) }
     ensures { ((xs cs : List Float) → Going nan (modal_step xs mix n) cs xs k out.old cells.old → Going nan (modal_step xs mix n) cs xs (k + N) out.new cells.new) × (length cells.new ≡ length cells.old) }

@@ -1,13 +1,23 @@
 // What the built records of an accepted sheet need, and where each one's parts begin.
 #![tactic(auto)]
 
-ghost use Rattle.std.specs.Prelude.{◌≡◌, true, false, ◌+◌, ◌*◌, ◌≤◌, ◌<◌, length};
-ghost use Rattle.sheet.specs.Record.{kind, first, next};
-ghost use Rattle.layout.specs.Built.{role};
-ghost use Rattle.layout.specs.Needs.{noise_cells, reverb_cells, cells_by};
-ghost use Rattle.layout.specs.Tables.{Table, Passed, role_code};
+ghost use Rattle.std.specs.Prelude.{◌≡◌, true, false, ◌≤◌, ◌<◌, length};
+ghost use Rattle.sheet.specs.Numbers.{kind_number};
+ghost use Rattle.sheet.specs.Record.{rate_of, record_at};
+ghost use Rattle.layout.specs.declared.Role.TheVariants.{Built};
+ghost use Rattle.layout.specs.Built.{role as role_at};
+ghost use Rattle.layout.specs.Needs.{noise_cells, reverb_cells, chain_length};
+ghost use Rattle.layout.specs.Tables.{Table, role_code, roles_of};
 ghost use Rattle.layout.specs.Counts.{cells_with, registers_with, scratch_with, Bare, Unowning, Placed};
+ghost use Rattle.offsets.specs.Colors.{color_number};
 
+use dsl::NoiseColor;
+use layout::{Links, Role};
+use sheet::Record;
+use sheet::kinds::{Kind, Proc, Src, Val};
+
+// How much memory a sheet needs to be lent. `tables::Needed` says it to C, flat and beside a refusal, since the interface fixes how that lies
+// in memory.
 #[derive(Clone, Copy)]
 pub struct Needs {
     pub cells: u64,
@@ -15,13 +25,15 @@ pub struct Needs {
     pub scratch: u64,
 }
 
-fn noise(colour: u8) -> u64
-    ensures { (result ≡ noise_cells colour) × (result ≤ 7) }
+#[tactic(auto, unfolding(crate::specs::Colors::color_number))]
+fn noise(color: NoiseColor) -> u64
+    ensures { (result ≡ noise_cells (color_number color)) × (result ≤ 7) }
 {
-    if colour == 0 {
-        return 0;
+    match color {
+        NoiseColor::White => 0,
+        NoiseColor::Pink => 7,
+        NoiseColor::Brown => 1,
     }
-    if colour == 1 { 7 } else { 1 }
 }
 
 // Six combs, four allpasses, and a store for each comb.
@@ -34,138 +46,112 @@ fn reverb(rate: u32) -> u64
     combs + lens[6] + lens[7] + lens[8] + lens[9] + 6
 }
 
-// A record's cells, by the bytes from its first on and its kind; not Modal's, which go by its chain. A constant array by kind
-// would be copied at each use; a match is a jump.
-fn cells_of(r: &[u8], rate: u32, k: u8) -> u64
-    requires { (40 ≤ length r.now) × (rate ≤ 192000) }
-    ensures { (result ≡ cells_with r.now rate k 0) × (result ≤ 5760000) }
+// The cells of record i, of this kind, where it is built; that i is a record is asked as `plan::Plan::row` asks it. A constant array by kind would
+// be copied at each use; a match is a jump. The rate is read where it is used: were it read once for all records, the compiler would work
+// out the lines of a reverb for every sheet.
+#[tactic(auto, using(crate::specs::Colors::noise_cells_color), unfolding(sheet::specs::Numbers::src_number, sheet::specs::Numbers::fold_number, sheet::specs::Numbers::biquad_number, sheet::specs::Numbers::proc_number, sheet::specs::Numbers::val_number, sheet::specs::Numbers::kind_number, layout::specs::Needs::need_of))]
+fn cells_of(links: &Links<'_>, i: usize, kind: Kind) -> u64
+    requires { i < links.now.count }
+    ensures { (result ≡ cells_with (record_at links.now.sheet.now i) (rate_of links.now.sheet.now) (kind_number kind) (chain_length links.now.sheet.now i)) × (result ≤ 5760000) }
 {
-    match k {
-        1 => 1,
-        2 => 1,
-        3 => 1,
-        4 => 2,
-        5 => 2,
-        6 => 2 * layout::voices(sheet::bits(r, 0)),
-        9 => noise(sheet::option(r)),
-        10 => 1,
-        22 => 11,
-        23 => 11,
-        24 => 11,
-        25 => 11,
-        26 => 11,
-        27 => 11,
-        28 => 11,
-        29 => lines::delay_line_len(sheet::number(r, 0), rate),
-        30 => reverb(rate),
-        32 => 4,
-        34 => lines::chorus_line_len(sheet::number(r, 1), rate),
-        35 => 4,
-        46 => 3,
+    let sheet = links.sheet;
+    let r = Record::at(sheet, i);
+    match kind {
+        Kind::Src(Src::Sine | Src::Square | Src::Sawtooth | Src::Dust) => 1,
+        Kind::Src(Src::Triangle | Src::Fm) => 2,
+        Kind::Src(Src::Super) => 2 * layout::voices(r.bits(0)),
+        Kind::Src(Src::Noise) => noise(NoiseColor::from(r.option())),
+        Kind::Biquad(_) => 11,
+        Kind::Proc(Proc::Delay) => lines::delay_line_len(r.number(0), sheet::rate(sheet)),
+        Kind::Proc(Proc::Reverb) => reverb(sheet::rate(sheet)),
+        Kind::Proc(Proc::Modal) => {
+            5 * layout::chain_length(sheet, links.count, links.nexts, links.firsts[i])
+        }
+        Kind::Proc(Proc::Drive | Proc::Compress) => 4,
+        Kind::Proc(Proc::Chorus) => lines::chorus_line_len(r.number(1), sheet::rate(sheet)),
+        Kind::Val(Val::Rand) => 3,
         _ => 0,
     }
 }
 
-fn registers_of(k: u8) -> u64
-    ensures { (result ≡ registers_with k) × (result ≤ 11) }
+// A generator's word, or the places in a kind's lines.
+#[tactic(auto, unfolding(sheet::specs::Numbers::src_number, sheet::specs::Numbers::fold_number, sheet::specs::Numbers::biquad_number, sheet::specs::Numbers::proc_number, sheet::specs::Numbers::val_number, sheet::specs::Numbers::kind_number, layout::specs::Needs::need_of))]
+fn registers_of(kind: Kind) -> u64
+    ensures { (result ≡ registers_with (kind_number kind)) × (result ≤ 11) }
 {
-    match k {
-        9 => 1,
-        10 => 1,
-        29 => 1,
-        30 => 10,
-        34 => 1,
-        46 => 1,
+    match kind {
+        Kind::Src(Src::Noise | Src::Dust) => 1,
+        Kind::Proc(Proc::Delay | Proc::Chorus) => 1,
+        Kind::Proc(Proc::Reverb) => 10,
+        Kind::Val(Val::Rand) => 1,
         _ => 0,
     }
 }
 
 // A block for Mix and Mul.
-fn scratch_of(k: u8) -> u64
-    ensures { (result ≡ scratch_with k) × (result ≤ 256) }
+#[tactic(auto, unfolding(sheet::specs::Numbers::src_number, sheet::specs::Numbers::fold_number, sheet::specs::Numbers::biquad_number, sheet::specs::Numbers::proc_number, sheet::specs::Numbers::val_number, sheet::specs::Numbers::kind_number, layout::specs::Needs::need_of))]
+fn scratch_of(kind: Kind) -> u64
+    ensures { (result ≡ scratch_with (kind_number kind)) × (result ≤ 256) }
 {
-    if k == 11 {
-        return 256;
-    }
-    if k == 12 { 256 } else { 0 }
-}
-
-// The cells of record i, of kind k and first f, where it is built. The rate is read here: were it read once for all records,
-// the compiler would work out the lines of a reverb for every sheet.
-fn cells_at(sheet: &[u8], count: usize, nexts: &[usize], i: usize, k: u8, f: usize) -> usize
-    requires { Passed sheet.now count × Table (next sheet.now) count nexts.now × (i < count) × (k ≡ kind sheet.now i) × (f ≡ first sheet.now i) }
-    ensures { (result ≡ cells_by sheet.now i) × (result ≤ 5760000) }
-{
-    if k == 31 {
-        return 5 * layout::chain_length(sheet, count, nexts, f) as usize;
-    }
-    let a = 24 + 40 * i;
-    cells_of(&sheet[a..], sheet::rate(sheet), k) as usize
-}
-
-// Whether kind k needs nothing, as half of all records do.
-fn bare(k: u8) -> bool
-    ensures { result ≡ true → Bare k }
-{
-    match k {
-        7 => true,
-        8 => true,
-        13 => true,
-        21 => true,
-        33 => true,
-        41 => true,
-        42 => true,
-        43 => true,
-        44 => true,
-        45 => true,
-        51 => true,
-        52 => true,
-        _ => false,
+    match kind {
+        Kind::Fold(_) => 256,
+        _ => 0,
     }
 }
 
-// Whether a record of kind k and role act may need anything.
-fn owns(k: u8, act: u8) -> bool
-    ensures { (result ≡ true → 2 ≤ act) × (result ≡ false → Unowning k act) }
+// Whether the kind needs anything, as half of all records do not.
+#[tactic(auto, unfolding(sheet::specs::Numbers::src_number, sheet::specs::Numbers::fold_number, sheet::specs::Numbers::biquad_number, sheet::specs::Numbers::proc_number, sheet::specs::Numbers::val_number, sheet::specs::Numbers::kind_number, layout::specs::Needs::need_of))]
+fn takes(kind: Kind) -> bool
+    ensures { result ≡ false → Bare (kind_number kind) }
 {
-    if bare(k) {
-        return false;
+    match kind {
+        Kind::Src(src) => !matches!(src, Src::Impact | Src::Env),
+        Kind::Proc(proc) => !matches!(proc, Proc::Gain | Proc::Tremolo),
+        Kind::Val(val) => val == Val::Rand,
+        Kind::Fold(_) | Kind::Biquad(_) => true,
+        Kind::Chain | Kind::Mode | Kind::Step => false,
     }
-    if act < 2 { false } else { true }
 }
 
-// The three tables of places, with one entry more for what the sheet needs of each.
+// Whether a record of the kind and of the role may need anything.
+fn owns(kind: Kind, role: Role) -> bool
+    ensures { (result ≡ true → role ≡ Built) × (result ≡ false → Unowning (kind_number kind) role) }
+{
+    match role {
+        Role::Built => takes(kind),
+        Role::Out | Role::Silent => false,
+    }
+}
+
+// The three tables of places, with one entry more for what the sheet needs of each. They are three and no table of triples, since
+// the passes before this one are lent the first two for tables of their own.
 pub fn offsets(
-    sheet: &[u8],
-    count: usize,
-    kinds: &[u8],
-    firsts: &[usize],
-    nexts: &[usize],
-    acts: &[u8],
+    links: &Links<'_>,
+    acts: &[Role],
     places: &mut [usize],
     words: &mut [usize],
     blocks: &mut [usize],
 ) -> Needs
-    requires { Passed sheet.now count × Table (kind sheet.now) count kinds.now × Table (first sheet.now) count firsts.now × Table (next sheet.now) count nexts.now × Table (λ j. role_code (role sheet.now j)) count acts.now × (count < length places.old) × (count < length words.old) × (count < length blocks.old) }
-    ensures { Placed sheet.now count places.new words.new blocks.new result.cells result.registers result.scratch }
+    requires { Table (λ j. role_code (role_at links.now.sheet.now j)) links.now.count (roles_of acts.now) × (links.now.count < length places.old) × (links.now.count < length words.old) × (links.now.count < length blocks.old) }
+    ensures { Placed links.now.sheet.now links.now.count places.new words.new blocks.new result.cells result.registers result.scratch }
 {
     let mut c = 0usize;
     let mut r = 0usize;
     let mut s = 0usize;
-    for i in 0..count {
+    for i in 0..links.count {
         places[i] = c;
         words[i] = r;
         blocks[i] = s;
-        let k = kinds[i];
-        if owns(k, acts[i]) {
-            c += cells_at(sheet, count, nexts, i, k, firsts[i]);
-            r += registers_of(k) as usize;
-            s += scratch_of(k) as usize;
+        let kind = links.kinds[i];
+        if owns(kind, acts[i]) {
+            c += cells_of(links, i, kind) as usize;
+            r += registers_of(kind) as usize;
+            s += scratch_of(kind) as usize;
         }
     }
-    places[count] = c;
-    words[count] = r;
-    blocks[count] = s;
+    places[links.count] = c;
+    words[links.count] = r;
+    blocks[links.count] = s;
     Needs {
         cells: c as u64,
         registers: r as u64,

@@ -1,4 +1,6 @@
-// The oscillators over a block: what the one-sample kernel gives, sample after sample.
+// The oscillators over a block: what the one-sample kernel gives, sample after sample. Output, frequencies and state stay three
+// parameters, and `Covers`, that each sample has a frequency, a clause of each: a struct of them would be made for one call and taken
+// apart in it. An index or a duty is a buffer of its own, as long as the block, so these are slices side by side.
 #![tactic(auto)]
 
 ghost use Rattle.std.specs.Prelude.{◌≡◌, ◌≤◌, length};

@@ -11,7 +11,7 @@ use Rattle.tree.specs.Block.{tab}
 use Rattle.control.specs.declared.Controls.{Controls}
 use Rattle.control.specs.Moves.{pitch_moved, bend_moved}
 use Rattle.sheet.specs.Checks.{sum}
-use Rattle.sheet.specs.Laws.{both, never, sum-suc}
+use Rattle.sheet.specs.Laws.{both, sum-suc}
 use Rattle.machine.specs.Machine.{State, state, room_check, fill_check, fill_of, cutoff_of, controlled, Call, fill, pitch, bend, cutoff, call, machine}
 use Rattle.machine.proofs.Samples.{samples-length}
 use Rattle.calls.specs.Calls.{Fills, Cuts}

@@ -1,4 +1,6 @@
 // A performance: a list of calls, made one after another with the player's own calls on the same sheet, controls and lent memory.
+// This crate has no heap, so the answers are a slice that the caller lends beside the calls, one for each. The lent memory is slices of its own, and
+// no struct: behind a `&mut` to a struct a slice may be replaced, so each contract would have to say that it was not.
 #![tactic(auto)]
 
 ghost use Rattle.std.specs.Prelude.{◌≡◌, leb, ◌≤◌, length};
@@ -56,24 +58,17 @@ fn one_call(
     }
 }
 
-// The controls after a call that began with c.
-fn after(c: Controls, outcome: Result<Controls, Refusal>) -> Controls
-    ensures { result ≡ controls_of c outcome }
+// How many samples a call of n made.
+fn took(outcome: Result<Controls, Refusal>, n: usize) -> usize
+    ensures { (result ≡ took_of (answer_of outcome) n) × (result ≤ n) }
 {
     match outcome {
-        Ok(controls) => controls,
-        Err(_) => c,
+        Ok(_) => n,
+        Err(_) => 0,
     }
 }
 
-// How many samples a call of n made.
-fn took(answer: u8, n: usize) -> usize
-    ensures { (result ≡ took_of answer n) × (result ≤ n) }
-{
-    if answer == 0 { n } else { 0 }
-}
-
-// The calls that fit, one after another.
+// The calls that fit, one after another; the answers are numbers, as `play` tells.
 fn perform(
     sheet: &[u8],
     calls: &[Call],
@@ -95,9 +90,9 @@ fn perform(
         let e = d + n;
         let r = one_call(sheet, call, c, &mut out[d..e], cells, regs, scr);
         let a = refusal::answer(r);
-        c = after(c, r);
+        c = r.unwrap_or(c);
         answers[k] = a;
-        d += took(a, n);
+        d += took(r, n);
     }
     c
 }
@@ -117,7 +112,8 @@ fn lengths_fit(calls: &[Call], n: usize) -> bool
     true
 }
 
-// The controls after the calls. Each answer is written, as the number that the machine gives; the samples of the accepted fills stand in out, one
+// The controls after the calls. Each answer is written, as the number that the machine of specs/ gives: the contract compares two
+// lists, and Options of refusals would be turned into these numbers by each clause. The samples of the accepted fills stand in out, one
 // after another. Nothing is written where there are more or fewer answers than calls, or where the fills do not fit in out.
 pub fn play(
     sheet: &[u8],

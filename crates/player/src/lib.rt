@@ -1,5 +1,6 @@
 // The player's calls. Each takes whatever bytes, numbers and lent memory it is given. A refusal says why, leaves the controls as they came and writes
 // nothing lent.
+// What a call ensures stands in each of its parts, which are ways to the same end; the lent memory is three slices, as `performance` tells.
 #![tactic(auto)]
 
 ghost use Rattle.std.specs.Prelude.{◌≡◌, ◌≤◌, ◌<◌, length};
@@ -11,11 +12,11 @@ ghost use Rattle.calls.specs.Calls.{controls_of, Fills, Cuts, Builds};
 
 use control::Controls;
 use offsets::Needs;
-use plan::Plan;
 use refusal::Refusal;
 use tables::Tables;
 
-// A sheet of at most 24 records has at most this many bytes. To zero tables for 256 records would take longer than a short fill of its voice.
+// A sheet of at most 24 records has at most this many bytes. To zero tables for 256 records takes 140 ns more (docs/SPEED.md), which is
+// longer than a short fill of its voice.
 const SHORT: usize = 984;
 
 // How much memory the sheet needs to be lent.
@@ -94,7 +95,7 @@ pub fn fill(
     fill_any(sheet, c, out, cells, regs, scr)
 }
 
-// ---- moves
+// ---- moves; `cutoff_short` and `cutoff_any` are apart as those of a fill are
 
 // Glides to the pitch `scale` by the part `coefficient` of the way a sample.
 pub fn pitch(c: Controls, scale: f32, coefficient: f32) -> Controls
@@ -121,10 +122,7 @@ fn cutoff_by<const N: usize, const M: usize>(
     ensures { Cuts sheet.now x cells.old (length regs.now) (length scr.now) (answer_of result) cells.new }
 {
     let p = prepare::prepare(sheet, cells.len(), regs.len(), scr.len(), t)?;
-    let plan = Plan::new(
-        sheet, p.count, &t.nexts, &t.acts, &t.begins, &t.afters, &t.places, &t.words, &t.blocks,
-    );
-    state::set_cutoff(&plan, x, cells);
+    state::set_cutoff(&t.plan(sheet, p.count), x, cells);
     Ok(())
 }
 

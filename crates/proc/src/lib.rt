@@ -4,6 +4,8 @@
 ghost use Rattle.std.specs.Prelude.{◌≡◌};
 ghost use Rattle.proc.specs.Effects.{gain_of, mode_of, lfo_angle, lfo_at, tremolo_by, tremolo_of, followed, reduction_of, compress_level, compress_gain, compress_of};
 
+// A mode's five cells, in the sheet's order and by the Rust's names. A resonator of its own in it would be taken apart wherever the cells
+// are loaded or stored. It shares three names with a filter's coefficients, and no formula.
 #[derive(Clone, Copy)]
 pub struct Mode {
     pub a1: f32,

@@ -1,2 +1,3 @@
 pub mod Passes
 pub mod Zero
+pub mod Whole

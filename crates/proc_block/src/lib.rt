@@ -1,5 +1,6 @@
 // The processors over a block, in place: what the one-sample kernel gives, sample after sample.
-// Those that play in passes are lent a buffer, whose numbers before and after have no meaning.
+// Those that play in passes are lent a buffer, whose numbers before and after have no meaning. What comes in beside the samples, as
+// an amount or a cutoff, is a buffer of its own, as long as the block, so these are slices side by side.
 #![tactic(auto)]
 
 mod last;
@@ -7,7 +8,7 @@ mod last;
 ghost use Rattle.std.specs.Prelude.{◌≡◌, ◌+◌, ◌^◌, ◌≤◌, ◌<◌, length};
 ghost use Rattle.dsl.specs.declared.DriveShape.TheVariants.{Tanh};
 ghost use Rattle.block.specs.Iterate.{given, after};
-ghost use Rattle.proc_block.specs.Steps.{gain_step, filter_step, driven_step, decay_step, ln_cosh_step, drive_by_step, drive_step_at, drive_plain_step, lfo_step, angle_step, tremolo_step, tremolo_by_step, compress_step, level_step, level_gain_step};
+ghost use Rattle.proc_block.specs.Steps.{gain_step, filter_step, decay_step, ln_cosh_step, drive_by_step, drive_step_at, drive_plain_step, lfo_step, angle_step, tremolo_step, tremolo_by_step, compress_step, level_step, level_gain_step};
 
 use biquad::Response;
 use drive_step::{Drive, Held};
@@ -28,22 +29,15 @@ pub fn filter_block(out: &mut [f32], cutoff: &[f32], r: Response, s: Filter) -> 
     requires { length out.old ≤ length cutoff.now }
     ensures { (out.new ≡ given (filter_step out.old cutoff.now r) s (length out.old)) × (result ≡ after (filter_step out.old cutoff.now r) s (length out.old)) }
 {
-    block::run_block(out, s, |k, s, x| {
-        let mut s = s;
-        (s.step(r, cutoff[k], x), s)
-    })
+    block::run_block(out, s, |k, mut s, x| (s.step(r, cutoff[k], x), s))
 }
 
 // ---- Drive, anti-aliased. The antiderivative of tanh is an exponential and then a logarithm, each a long chain: in loops of
-// their own, apart from the recurrence, more of them overlap.
+// their own, apart from the recurrence, more of them overlap. They are not inlined, or else the compiler keeps the recurrence's state
+// in registers and loads it again after each call: measured, 11 instructions a sample.
 
-fn drive_amplified(out: &mut [f32], amount: &[f32])
-    requires { length out.old ≤ length amount.now }
-    ensures { out.new ≡ given (driven_step out.old amount.now) tt (length out.old) }
-{
-    block::run_block(out, (), |k, s, x| (drive_step::amplified(amount[k], x), s));
-}
-
+#[tactic(auto, using(crate::proofs::Whole::loops), unfolding(crate::specs::Steps::decay_step))]
+#[inline(never)]
 fn drive_decays(fs: &mut [f32], xs: &[f32])
     requires { length fs.old ≤ length xs.now }
     ensures { fs.new ≡ given (decay_step xs.now) tt (length fs.old) }
@@ -54,6 +48,8 @@ fn drive_decays(fs: &mut [f32], xs: &[f32])
     }
 }
 
+#[tactic(auto, using(crate::proofs::Whole::loops), unfolding(crate::specs::Steps::ln_cosh_step))]
+#[inline(never)]
 fn drive_ln_coshes(fs: &mut [f32], xs: &[f32])
     requires { length fs.old ≤ length xs.now }
     ensures { fs.new ≡ given (ln_cosh_step xs.now fs.old) tt (length fs.old) }
@@ -69,6 +65,7 @@ fn drive_ln_coshes(fs: &mut [f32], xs: &[f32])
 }
 
 // From the amplified samples, in out, and their antiderivatives. tanh is 0 at 0.
+#[tactic(auto, using(crate::proofs::Whole::loops))]
 fn drive_averages(out: &mut [f32], fs: &[f32], s: Drive) -> Drive
     requires { length out.old ≤ length fs.now }
     ensures { (out.new ≡ given (drive_by_step out.old fs.now Tanh) s (length out.old)) × (result ≡ after (drive_by_step out.old fs.now Tanh) s (length out.old)) }
@@ -85,27 +82,6 @@ fn drive_averages(out: &mut [f32], fs: &[f32], s: Drive) -> Drive
     state
 }
 
-fn drive_tanh(out: &mut [f32], fs: &mut [f32], amount: &[f32], s: Drive) -> Drive
-    requires { (length out.old ≤ length amount.now) × (length fs.old ≡ length out.old) }
-    ensures { (out.new ≡ given (drive_step_at out.old amount.now Tanh) s (length out.old)) × (result ≡ after (drive_step_at out.old amount.now Tanh) s (length out.old)) }
-{
-    drive_amplified(out, amount);
-    drive_decays(fs, out);
-    drive_ln_coshes(fs, out);
-    drive_averages(out, fs, s)
-}
-
-// Any shape, in one pass.
-fn drive_steps(out: &mut [f32], amount: &[f32], shape: DriveShape, s: Drive) -> Drive
-    requires { length out.old ≤ length amount.now }
-    ensures { (out.new ≡ given (drive_step_at out.old amount.now shape) s (length out.old)) × (result ≡ after (drive_step_at out.old amount.now shape) s (length out.old)) }
-{
-    block::run_block(out, s, |k, s, x| {
-        let mut s = s;
-        (s.step(shape, amount[k], x), s)
-    })
-}
-
 pub fn drive_block(
     out: &mut [f32],
     buf: &mut [f32],
@@ -119,9 +95,12 @@ pub fn drive_block(
     match shape {
         DriveShape::Tanh => {
             let fs = &mut buf[..out.len()];
-            drive_tanh(out, fs, amount, s)
+            block::run_block(out, (), |k, s, x| (drive_step::amplified(amount[k], x), s));
+            drive_decays(fs, out);
+            drive_ln_coshes(fs, out);
+            drive_averages(out, fs, s)
         }
-        _ => drive_steps(out, amount, shape, s),
+        _ => block::run_block(out, s, |k, mut s, x| (s.step(shape, amount[k], x), s)),
     }
 }
 
@@ -136,7 +115,8 @@ pub fn drive_plain_block(out: &mut [f32], amount: &[f32], shape: DriveShape)
     );
 }
 
-// ---- The LFO of Tremolo and Chorus, and Tremolo. A sine is a long chain: in a loop of nothing else, more of them overlap.
+// ---- The LFO of Tremolo and Chorus, and Tremolo. A sine is a long chain: in a loop of nothing else, more of them overlap. As in
+// `value_block`, a clause says that the positions fit.
 
 fn lfo_angles(buf: &mut [f32], rate: f32, srf: f32, t: u64)
     requires { t + length buf.old < 2 ^ 64 }

@@ -40,7 +40,8 @@ impl Rand {
         self.phase -= 1.0;
     }
 
-    // Takes as many turns as the phase has gone past, at most 65: the increment is at most 64 and the phase was below 1.
+    // Takes as many turns as the phase has gone past, at most 65: the increment is at most 64 and the phase was below 1. It is worked out once a
+    // block, and from and to are the record's: a struct of the three would be made for one call.
     pub fn advance(&mut self, inc: f32, from: f32, to: f32)
         ensures { self.new ≡ rand_next inc from to self.old }
     {

@@ -1,9 +1,6 @@
 -- What the proofs use of the definitions.
-use Rattle.std.specs.Prelude.{◌≡◌, refl, Bool, true, false, cond, ◌&&◌, List, [], ◌∷◌, ℕ, suc, ◌+◌, ◌-◌, ◌*◌, ◌≤◌, ◌<◌, eqb, length, drop, get_or, replicate, Float}
+use Rattle.std.specs.Prelude.{◌≡◌, refl, Bool, true, false, cond, ◌&&◌, List, [], ◌∷◌, ℕ, suc, ◌+◌, ◌-◌, ◌*◌, ◌≤◌, ◌<◌, eqb, length, drop, get_or, Float}
 use Rattle.std.proofs.Common.{sym, ap, ◌∙◌, mul-le-mul, add-one, arith, drop-cons, le-leb, eqb-true}
-use Rattle.std.proofs.lemmas.List.{length-replicate}
-use Rattle.std.specs.Float.{binary32}
-use Rattle.std.specs.Float.Ieee.{of_bits}
 use Rattle.std.proofs.lemmas.Bool.{lt-leb}
 use Rattle.control.specs.declared.Controls.{Controls}
 use Rattle.sheet.specs.Checks.{check_of}

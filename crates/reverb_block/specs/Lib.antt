@@ -1,3 +1,2 @@
-pub mod Copy
 pub mod Lines
 pub mod Reverb

@@ -1,4 +1,6 @@
 // Reverb over a block: the lines and their places stay in the record's own cells and registers.
+// `after` does not say that the cells stay as many, so it is said beside it.
+// Feedback and mix are the record's and the rest is its memory: a struct of them would be made for one call.
 #![tactic(auto)]
 
 ghost use Rattle.std.specs.Prelude.{◌≡◌, ◌+◌, ◌^◌, ◌≤◌, ◌<◌, List, ◌++◌, length, Float};
@@ -7,17 +9,20 @@ ghost use Rattle.reverb_block.specs.Reverb as bank;
 ghost use Rattle.reverb_block.specs.Reverb.{line_from, reverb_step, Placed};
 ghost use Rattle.reverb_block.specs.Lines.{LineAt};
 
-// The six combs, one after the other: their sum.
+// The six combs, one after the other: their sum, and where the first allpass's line begins. Stores, places and lengths are three arrays:
+// stores and places are copied whole from the record's cells and registers and back, and the lengths stay, which each loop over a
+// struct of all three would have to say.
+#[tactic(auto, using(crate::proofs::Inside::inside))]
 fn combs(
     lines: &mut [f32],
-    stores: &mut [f32],
-    places: &mut [u64],
-    lens: &[u64],
+    stores: &mut [f32; 6],
+    places: &mut [u64; 10],
+    lens: &[u64; 10],
     feedback: f32,
     x: f32,
-) -> f32
-    requires { LineAt lens.now places.old lines.old 0 0 × (length stores.old ≡ 6) }
-    ensures { ((result, (lines.new ++ stores.new, places.new)) ≡ bank.combs feedback lens.now x (lines.old ++ stores.old, places.old) 6) × LineAt lens.now places.new lines.new 0 0 × (length stores.new ≡ 6) }
+) -> (f32, usize)
+    requires { LineAt lens.now places.old lines.old 0 0 }
+    ensures { ((result.0, (lines.new ++ stores.new, places.new)) ≡ bank.combs feedback lens.now x (lines.old ++ stores.old, places.old) 6) × LineAt lens.now places.new lines.new result.1 6 }
 {
     let mut wet: f32 = 0.0;
     let mut from: usize = 0;
@@ -32,11 +37,18 @@ fn combs(
         wet = wet + y;
         from = from + (len as usize);
     }
-    wet
+    (wet, from)
 }
 
 // The four allpasses, one after the other, from the combs' sum; first is where the first of their lines begins.
-fn allpasses(lines: &mut [f32], places: &mut [u64], lens: &[u64], first: usize, sum: f32) -> f32
+#[tactic(auto, using(crate::proofs::Inside::inside))]
+fn allpasses(
+    lines: &mut [f32],
+    places: &mut [u64; 10],
+    lens: &[u64; 10],
+    first: usize,
+    sum: f32,
+) -> f32
     requires { LineAt lens.now places.old lines.old first 6 }
     ensures { ((ss : List Float) → (result, (lines.new ++ ss, places.new)) ≡ bank.allpasses lens.now (sum, (lines.old ++ ss, places.old)) 4) × LineAt lens.now places.new lines.new first 6 }
 {
@@ -56,42 +68,33 @@ fn allpasses(lines: &mut [f32], places: &mut [u64], lens: &[u64], first: usize, 
     wet
 }
 
-// Where line n begins.
-fn line_from(lens: &[u64], n: usize) -> usize
-    requires { (length lens.now ≡ 10) × (n ≤ 10) × (line_from lens.now 10 < 2 ^ 64) }
-    ensures { result ≡ line_from lens.now n }
-{
-    let mut from: usize = 0;
-    for k in 0..n {
-        from = from + (lens[k] as usize);
-    }
-    from
-}
-
 // The cells in two parts, the lines and the combs' stores.
 fn reverb_lines(
     out: &mut [f32],
     feedback: f32,
     mix: f32,
-    lens: &[u64],
+    lens: &[u64; 10],
     lines: &mut [f32],
-    stores: &mut [f32],
-    places: &mut [u64],
+    stores: &mut [f32; 6],
+    places: &mut [u64; 10],
 )
-    requires { LineAt lens.now places.old lines.old 0 0 × (length stores.old ≡ 6) }
-    ensures { (out.new ≡ given (reverb_step out.old feedback mix lens.now) (lines.old ++ stores.old, places.old) (length out.old)) × ((lines.new ++ stores.new, places.new) ≡ after (reverb_step out.old feedback mix lens.now) (lines.old ++ stores.old, places.old) (length out.old)) × LineAt lens.now places.new lines.new 0 0 × (length stores.new ≡ 6) }
+    requires { LineAt lens.now places.old lines.old 0 0 }
+    ensures { (out.new ≡ given (reverb_step out.old feedback mix lens.now) (lines.old ++ stores.old, places.old) (length out.old)) × ((lines.new ++ stores.new, places.new) ≡ after (reverb_step out.old feedback mix lens.now) (lines.old ++ stores.old, places.old) (length out.old)) × LineAt lens.now places.new lines.new 0 0 }
 {
-    let first = line_from(lens, 6);
-    for k in 0..out.len() {
-        let x = out[k];
-        let sum = combs(lines, stores, places, lens, feedback, x);
+    for sample in out.iter_mut() {
+        let x = *sample;
+        let (sum, first) = combs(lines, stores, places, lens, feedback, x);
         let wet = allpasses(lines, places, lens, first, sum);
-        out[k] = line_step::reverb_mix(mix, x, wet);
+        *sample = line_step::reverb_mix(mix, x, wet);
     }
 }
 
 // The cells are the lines and then the combs' six stores; the registers are the ten places. Stores, places and lengths are
-// copied, so that the compiler knows that no two of them overlap.
+// copied into arrays, since there is no heap: of a fixed length, and so
+// that the compiler knows that no two of them overlap.
+// Not inlined, since in the walk the compiler has no registers left for the ten places: measured, 165 instructions a sample in place
+// of 143.
+#[inline(never)]
 pub fn reverb_block(
     out: &mut [f32],
     feedback: f32,

@@ -6,7 +6,8 @@ use borrow.Rule.Slice.PartMut.{mid_of, put_mid, mid_len, same_len_mid}
 use Rattle.sheet.specs.Record.{count_of, kind}
 use Rattle.sheet.specs.Checks.{sum}
 use Rattle.sheet.specs.Laws.{sum-suc}
-use Rattle.layout.specs.Built.{role, built, is_built}
+use Rattle.layout.specs.Built.{role, is_built}
+use Rattle.layout.specs.declared.Role.TheVariants.{Built}
 use Rattle.layout.specs.Needs.{cells, registers, cells_from}
 use Rattle.layout.specs.Counts.{sum-above, cells-built}
 use Rattle.plan.specs.declared.Row.{Row}
@@ -59,7 +60,7 @@ unfolding scaled
 scaled-none s x cs = refl
 
 -- a built filter has two cells at least
-pub filter-room : (s : List ℕ) (i n k at : ℕ) → i < n → role s i ≡ built → k ≡ kind s i → at ≡ cells_from s i → (m : ℕ) → cells_from s n ≤ m → 22 ≤ k → k ≤ 28 → at + 2 ≤ m
+pub filter-room : (s : List ℕ) (i n k at : ℕ) → i < n → role s i ≡ Built → k ≡ kind s i → at ≡ cells_from s i → (m : ℕ) → cells_from s n ≤ m → 22 ≤ k → k ≤ 28 → at + 2 ≤ m
 filter-room s i n k at h r ek et m room low high =
     omega (arith, sum-above (cells s) n i h, cells-built s i r, filter-need s i (omega arith) (omega arith))
 

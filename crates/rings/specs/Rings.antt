@@ -1,12 +1,14 @@
--- Check 9 as the code makes it: a place of a Reverb, a test that fails, and a record whose kind is not checked.
-use Rattle.std.specs.Prelude.{◌≡◌, refl, Bool, true, false, not, cond, ◌&&◌, List, ◌≢◌, ℕ, zero, suc, ◌<◌, ltb, Float}
-use Rattle.std.proofs.Common.{sym, ap, ap₂, ◌∙◌, arith, ne_eqb}
-use Rattle.std.proofs.Math.Decide.{ℕ_discrete}
-use Rattle.sheet.specs.Record.{kind}
+-- Check 9 as the code makes it: a place of a Reverb, a test of each index of a range, and a record on its part.
+use Rattle.std.specs.Prelude.{◌≡◌, refl, Bool, true, false, not, List, ℕ, ◌<◌, ltb, length, get_or, Float}
+use Rattle.std.proofs.Common.{sym, ap, ap₂, ◌∙◌, arith}
 use Rattle.sheet.specs.Checks.{all}
+use Rattle.sheet.specs.Laws.{all_of, all-fails}
+use Rattle.std.specs.Bool.{MatchBool}
+use Rattle.std.specs.List.{AllWithin, HoldsAt, range_with_len}
+use Rattle.std.proofs.lemmas.List.FromFn.{length-range_with_len, get_or-range_with_len}
 use Rattle.block.specs.Iterate.{word}
-use Rattle.unit.specs.Own.{Own}
-use Rattle.layout.specs.Built.{role, built, is_built}
+use Rattle.layout.specs.Built.{role}
+use Rattle.layout.specs.declared.Role.TheVariants.{Built}
 use Rattle.layout.specs.Needs.{cells, registers, cells_from, registers_from}
 use Rattle.tree.specs.Flat.{seg}
 use Rattle.unit.specs.State.{own_ok, record_ok}
@@ -24,35 +26,17 @@ pub not-false : (b : Bool) → not b ≡ false → b ≡ true
 not-false true e = refl
 not-false false e = sym e
 
-and-false : (a b : Bool) → a ≡ false → a && b ≡ false
-and-false a b e = ap (λ a. a && b) e
-
-false-and : (a b : Bool) → b ≡ false → a && b ≡ false
-false-and true b e = e
-false-and false b e = refl
-
-pub all-not : (p : ℕ → Bool) (n i : ℕ) → i < n → p i ≡ false → all p n ≡ false
-unfolding all
-all-not p zero i h e = let x : ⊥ = omega arith in absurd x
-all-not p (suc n) i h e = elim (ℕ_discrete i n) [
-  | yes q ↦ false-and (all p n) (p n) (ap p (sym q) ∙ e)
-  | no d ↦ and-false (all p n) (p n) (all-not p n i (omega arith) e)
-]
-
--- ---- the other kinds
-pub unchecked : (s : List ℕ) (i k : ℕ) (o : Own) → k ≡ kind s i → k ≢ 29 → k ≢ 30 → k ≢ 34 → k ≢ 46 → own_ok s i o ≡ true
-unfolding own_ok
-unchecked s i k o e a b c d = rw (← e, ne_eqb k 29 a, ne_eqb k 34 c, ne_eqb k 30 b, ne_eqb k 46 d)
-
--- of a kind below 29, built or not
-pub record-unchecked : (s : List ℕ) (i k : ℕ) (o : Own) → k ≡ kind s i → k < 29 → record_ok s o i ≡ true
-record-unchecked s i k o e h = go (is_built (role s i)) _ (unchecked s i k _ e (omega arith) (omega arith) (omega arith) (omega arith))
-  where
-    go : (b c : Bool) → c ≡ true → cond b c true ≡ true
-    go true c e = e
-    go false c e = refl
-
 -- a built record, on its part of the cells and the registers
-pub record-checked : (s : List ℕ) (i : ℕ) (cs xs : List Float) (rs ws : List ℕ) (r : Bool) → role s i ≡ built
+pub record-checked : (s : List ℕ) (i : ℕ) (cs xs : List Float) (rs ws : List ℕ) (r : Bool) → role s i ≡ Built
     → xs ≡ seg (cells_from s i) (cells s i) cs → ws ≡ seg (registers_from s i) (registers s i) rs → r ≡ own_ok s i (xs, ws) → r ≡ record_ok s (cs, rs) i
 record-checked s i cs xs rs ws r b ex ew e = e ∙ ap₂ (λ xs ws. own_ok s i (xs, ws)) ex ew ∙ rw b
+
+-- ---- `all` over a range, by a test of each index
+index : (n i : ℕ) → i < n → get_or (range_with_len 0 n) i 0 ≡ i
+index n i h = get_or-range_with_len 0 n i 0 h ∙ omega arith
+
+pub all-ranged : (p : ℕ → Bool) (n : ℕ) (r : Bool)
+    → MatchBool r (AllWithin (λ k. p k ≡ true) (range_with_len 0 n) 0 (length (range_with_len 0 n))) ((k : ℕ) × (k < length (range_with_len 0 n)) × HoldsAt (λ k. p k ≡ false) (range_with_len 0 n) k)
+    → r ≡ all p n
+all-ranged p n true w = sym (all_of p n (λ i h. sym (ap p (index n i h)) ∙ w i 0 (omega arith) (rw length-range_with_len h)))
+all-ranged p n false w = let h = rw length-range_with_len at w.1 in sym (all-fails p n w.0 h (sym (ap p (index n w.0 h)) ∙ w.2 0))

@@ -1,5 +1,5 @@
 -- Twice n / 2 ^ 24 is n / 2 ^ 23: nothing is rounded for a whole n of 24 digits.
-use Rattle.std.proofs.Common.{◌≡◌, ℕ, zero, suc, ◌*◌, ◌^◌, ◌<◌, ◌≤◌, Bool, true, false, T, pos, sym, refl, ap, ◌∙◌, lt_of_lt_of_le, le_of_lt, mul_assoc, mul_comm, mul-pos, one-mul, arith, lit≤, pow_pos, shl_lt}
+use Rattle.std.proofs.Common.{◌≡◌, ℕ, zero, suc, ◌*◌, ◌^◌, ◌<◌, true, false, pos, sym, refl, ap, ◌∙◌, lt_of_lt_of_le, le_of_lt, mul_assoc, mul_comm, mul-pos, one-mul, arith, lit≤, pow_pos, shl_lt}
 use lib.Ieee.Fits.{down_pos}
 use lib.Ieee.{Float, nan, inf, fin, binary32, round, of_int, of_bits, mul, div, up, down}
 use lib.Ieee.Exact.{HasValue, round_exact}

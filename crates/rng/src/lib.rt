@@ -26,6 +26,7 @@ pub struct Rng {
     pub state: u64,
 }
 
+// Each draw says where it leaves the generator: that alone is common to all.
 impl Rng {
     // The next 64 bits.
     pub fn next_u64(&mut self) -> u64

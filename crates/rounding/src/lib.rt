@@ -1,15 +1,16 @@
 // The whole numbers near a float: floor, trunc and round, and what they leave over. From 2^23 on an f32 is whole, so y + 2^23 is y
 // rounded to the nearest whole number, and one comparison tells which neighbour is asked for: no call of the C library, and no cast.
-// std's methods of these names take up to twice as long: they round to the floor first, and copy the sign.
+// Measured: std's methods of these names take up to twice as long, since they round to the floor first, and copy the sign.
 #![tactic(auto)]
 
-ghost use Rattle.std.specs.Prelude.{◌≡◌, false, ◌+◌, ◌-◌, ◌*◌, ◌/◌, pos, T};
+ghost use Rattle.std.specs.Prelude.{◌≡◌, ℕ, false, ◌+◌, ◌-◌, ◌*◌, ◌/◌, pos, T};
 ghost use Rattle.std.specs.Float.Ieee as Ieee;
 ghost use Rattle.std.specs.Float.{fin, binary32, binary64};
 ghost use Rattle.std.specs.Float.Ieee.Positive.{num, den};
-ghost use Rattle.rounding.specs.Whole.{floor_of, trunc_of, round_of, fract_of, wrap_of};
+ghost use Rattle.rounding.specs.Whole.{cut, whole_of, floor_of, trunc_of, round_of, fract_of, wrap_of};
 
-// The whole part of a y between 0 and 2^23.
+// The whole part of a y between 0 and 2^23. The three functions of such a y state both bounds each: a type that has them would be made
+// where a size is known, and opened in the next line.
 fn floor_above(y: f32) -> f32
     requires above_zero { T (Ieee.lt (fin false 0 (pos 0)) y) }
     requires has_fraction { T (Ieee.lt y (fin false 1 (pos 23))) }
@@ -49,7 +50,8 @@ fn round_above_f64(y: f64) -> f64
     if y - t == 0.5 { t + 1.0 } else { t }
 }
 
-// The largest whole number that is not above x. A NaN, an infinity and -0.0 stay as they are.
+// The largest whole number that is not above x. A NaN, an infinity and -0.0 stay as they are. `round` has the same tests: what one
+// function of both would say of the two closures that it takes is longer than they are.
 pub fn floor(x: f32) -> f32
     ensures { result ≡ floor_of binary32 x }
 {
@@ -82,6 +84,7 @@ pub fn round(x: f32) -> f32
     }
 }
 
+// The same for an f64, apart for the reason at `round_above_f64`.
 pub fn round_f64(x: f64) -> f64
     ensures { result ≡ round_of binary64 x }
 {
@@ -98,9 +101,10 @@ pub fn round_f64(x: f64) -> f64
     }
 }
 
-// x - floor(x). A phase is nearly always between 0 and 2, where the floor is 0 or 1.
-pub fn wrap(x: f32) -> f32
-    ensures { result ≡ wrap_of binary32 x }
+// x less its whole part, as `whole` tells it. A phase is nearly always between 0 and 2, where that is 0 or 1.
+fn left_over<F: FnOnce(f32) -> f32>(x: f32, whole: F) -> f32
+    requires { F.pre whole x }
+    ensures { (n : ℕ → ℕ → ℕ) → ((w : _) → F.post whole x w → w ≡ whole_of binary32 cut n x) → result ≡ Ieee.sub binary32 x (whole_of binary32 cut n x) }
 {
     if x < 1.0 {
         if x > 0.0 {
@@ -109,19 +113,19 @@ pub fn wrap(x: f32) -> f32
     } else if x < 2.0 {
         return x - 1.0;
     }
-    x - floor(x)
+    x - whole(x)
+}
+
+// x - floor(x).
+pub fn wrap(x: f32) -> f32
+    ensures { result ≡ wrap_of binary32 x }
+{
+    left_over(x, floor)
 }
 
 // x - trunc(x), which has x's sign.
 pub fn fract(x: f32) -> f32
     ensures { result ≡ fract_of binary32 x }
 {
-    if x < 1.0 {
-        if x > 0.0 {
-            return x;
-        }
-    } else if x < 2.0 {
-        return x - 1.0;
-    }
-    x - trunc(x)
+    left_over(x, trunc)
 }

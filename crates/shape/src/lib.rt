@@ -1,12 +1,17 @@
-// Checks 5, 6 and 7, by the tables of the records' kinds and links.
+// Checks 5, 6 and 7, by the tables of the records' kinds and links. Before check 5 has passed nothing more is known of the tables than that they are as long
+// as each other and that links climb, so they come as slices; after it they are `chains::Linked`. The links are the sheet's
+// indices, and there is no heap for a tree of them; a link of 0 is none.
 #![tactic(auto)]
 
 ghost use Rattle.std.specs.Prelude.{◌≡◌, ℕ, ◌≤◌, ◌<◌, ltb, length};
 ghost use Rattle.refusal.specs.Refusal.{answer_of};
 ghost use Rattle.sheet.specs.Checks.{sum};
-ghost use Rattle.sheet.specs.Links.{at, nodes_at, LinksIn, LinkedIn, once_in, depth_in, shape_in};
+ghost use Rattle.sheet.specs.Links.{at, nodes_at, LinksIn, once_in, depth_in, shape_in};
+ghost use Rattle.sheet.specs.Numbers.{numbers_of};
 
+use chains::Linked;
 use refusal::Refusal;
+use sheet::kinds::Kind;
 
 // Counts in `hits` how many links lead to each record; a link of 0 counts at 0. Links lead up, so that a record's count is
 // whole at its turn. Record 0 has no next.
@@ -30,7 +35,7 @@ fn once_in(first: &[usize], next: &[usize], hits: &mut [u16]) -> bool
     true
 }
 
-// With N counts.
+// With N counts: there is no heap.
 fn once_with<const N: usize>(first: &[usize], next: &[usize]) -> bool
     requires links_in { LinksIn first.now next.now }
     requires in_bounds { (1 ≤ length first.now) × (length first.now ≤ N) × (N ≤ 256) }
@@ -55,65 +60,64 @@ fn once(first: &[usize], next: &[usize]) -> bool
 
 // Whether nodes nest deeper than `room` from record `start` on: along the chain by a loop, into each node's own chain by
 // a call, which ends where there is no room left. Links climb, so what is left above the index falls. The loop goes along
-// links, so it counts no index.
-fn deeper(kinds: &[u8], first: &[usize], next: &[usize], start: usize, room: usize) -> bool
-    requires linked_in { LinkedIn kinds.now first.now next.now }
-    requires start_in_bounds { start < length first.now }
-    ensures { result ≡ ltb room (depth_in kinds.now first.now next.now start) }
+// links, of which 0 is none, so it counts no index.
+fn deeper(t: &Linked<'_>, start: usize, room: usize) -> bool
+    requires { start < length t.now.first.now }
+    ensures { result ≡ ltb room (depth_in (numbers_of t.now.kinds.now) t.now.first.now t.now.next.now start) }
 {
     let mut j = start;
     while j != 0 {
-        if sheet::kinds::is_node(kinds[j]) {
+        if t.kinds[j].is_node() {
             if room == 0 {
                 return true;
             }
-            if deeper(kinds, first, next, first[j], room - 1) {
+            if deeper(t, t.first[j], room - 1) {
                 return true;
             }
         }
-        j = next[j];
+        j = t.next[j];
     }
     false
 }
 
-fn node_count(kinds: &[u8]) -> usize
-    ensures { result ≡ sum (nodes_at (at kinds.now)) (length kinds.now) }
+fn node_count(kinds: &[Kind]) -> usize
+    ensures { result ≡ sum (nodes_at (at (numbers_of kinds.now))) (length kinds.now) }
 {
     let mut n = 0usize;
     for i in 0..kinds.len() {
-        n += usize::from(sheet::kinds::is_node(kinds[i]));
+        n += usize::from(kinds[i].is_node());
     }
     n
 }
 
 // 7. Of at most 16 records no more than 16 nest, and of fewer nodes no more than they are.
-fn too_deep(kinds: &[u8], first: &[usize], next: &[usize]) -> bool
-    requires linked_in { LinkedIn kinds.now first.now next.now }
-    requires in_bounds { 1 ≤ length first.now }
-    ensures { result ≡ ltb 15 (depth_in kinds.now first.now next.now (at first.now 0)) }
+fn too_deep(t: &Linked<'_>) -> bool
+    requires { 1 ≤ length t.now.first.now }
+    ensures { result ≡ ltb 15 (depth_in (numbers_of t.now.kinds.now) t.now.first.now t.now.next.now (at t.now.first.now 0)) }
 {
-    if first.len() <= 16 {
+    if t.first.len() <= 16 {
         return false;
     }
-    if node_count(kinds) < 16 {
+    if node_count(t.kinds) < 16 {
         return false;
     }
-    deeper(kinds, first, next, first[0], 15)
+    deeper(t, t.first[0], 15)
 }
 
 // 5, 6 and 7, by the tables
-pub fn shape(kinds: &[u8], first: &[usize], next: &[usize]) -> Result<(), Refusal>
+pub fn shape(kinds: &[Kind], first: &[usize], next: &[usize]) -> Result<(), Refusal>
     requires links_in { LinksIn first.now next.now }
     requires kinds_len { (length kinds.now ≡ length first.now) × (1 ≤ length first.now) × (length first.now ≤ 256) }
-    ensures { answer_of result ≡ shape_in kinds.now first.now next.now }
+    ensures { answer_of result ≡ shape_in (numbers_of kinds.now) first.now next.now }
 {
     if !once(first, next) {
         return Err(Refusal::Linked);
     }
-    if !(chains::chains_ok(kinds, first, next) & sheet::kinds::is_node(kinds[0])) {
+    let t = Linked { kinds, first, next };
+    if !(chains::chains_ok(&t) & kinds[0].is_node()) {
         return Err(Refusal::Chain);
     }
-    if too_deep(kinds, first, next) {
+    if too_deep(&t) {
         return Err(Refusal::Depth);
     }
     Ok(())

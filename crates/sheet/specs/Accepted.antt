@@ -133,7 +133,7 @@ module _ (s ks fs ns : List ℕ) where
     module _ (b : header_ok s ≡ true) {d : ℕ} (c : Decoded s ks fs ns d) where
       pub checked-fault : d ≢ 0 → Checked s ks fs ns d
       unfolding lowest
-      checked-fault h = record { answer = c.answer ∙ then-fault (all (λ i. record_ok (record_at s i)) (count_of s)) (all (links_ok s) (count_of s)) (shape_of (kind s) (first s) (next s) (count_of s)) (λ q. h (c.answer ∙ q)) ∙ sym (check-is s ∙ rw (a, b)); tables = λ q. c.tables }
+      checked-fault h = record { answer = c.answer ∙ then-fault (all (λ i. record_ok (record_at s i)) (count_of s)) (all (links_ok s) (count_of s)) (shape_of (kind s) (first s) (next s) (count_of s)) (λ q. h (c.answer ∙ q)) ∙ sym (check-is s ∙ rw (a, b)); tables = λ q. absurd (h q) }
 
       module _ (e : d ≡ 0) where
         passed : (all (λ i. record_ok (record_at s i)) (count_of s) ≡ true) × (all (links_ok s) (count_of s) ≡ true)
@@ -141,14 +141,17 @@ module _ (s ks fs ns : List ℕ) where
         passed = then-none (all (λ i. record_ok (record_at s i)) (count_of s)) (all (links_ok s) (count_of s)) (sym c.answer ∙ e)
 
         module _ {n : ℕ} (m : n ≡ count_of s) (kl : n ≤ length ks) (fl : n ≤ length fs) (nl : n ≤ length ns) where
+          tables-are : Tables s ks fs ns
+          tables-are = record { kind_at = λ i g. c.kind_at i g (all-at (λ k. record_ok (record_at s k)) (count_of s) passed.0 i g); first_at = c.first_at; next_at = c.next_at }
+
           kinds-are : at (take n ks) ≡ kind s
-          kinds-are = kinds-table c.tables (sized s a).long m kl
+          kinds-are = kinds-table tables-are (sized s a).long m kl
 
           first-are : at (take n fs) ≡ first s
-          first-are = first-table c.tables (sized s a).long m fl
+          first-are = first-table tables-are (sized s a).long m fl
 
           next-are : at (take n ns) ≡ next s
-          next-are = next-table c.tables (sized s a).long m nl
+          next-are = next-table tables-are (sized s a).long m nl
 
           count_is : length (take n fs) ≡ count_of s
           count_is = length-take-le n fs fl ∙ m
@@ -166,7 +169,7 @@ module _ (s ks fs ns : List ℕ) where
                 ∙ ap (λ (x : ℕ → ℕ). shape_of (kind s) (first s) x (length (take n fs))) next-are
                 ∙ ap (shape_of (kind s) (first s) (next s)) count_is
                 ∙ sym (check-is s ∙ rw (a, b, passed.0, passed.1));
-            tables = λ z. c.tables;
+            tables = λ z. tables-are;
           }
 
 -- ---- every record stands in the tree: each but record 0 has a linker, which is lower

@@ -1,5 +1,5 @@
 -- Checks 1 to 7 of document 01, each as what must hold; the answer is the lowest number whose check fails, and 0 where none does.
-use Rattle.std.specs.Prelude.{Bool, true, cond, ◌&&◌, ◌||◌, List, [], ◌∷◌, map, ℕ, zero, suc, ◌+◌, ◌-◌, ◌*◌, length, leb, ltb, eqb}
+use Rattle.std.specs.Prelude.{Bool, true, false, cond, ◌&&◌, ◌||◌, List, [], ◌∷◌, map, ℕ, zero, suc, ◌+◌, ◌-◌, ◌*◌, length, leb, ltb, eqb}
 use Rattle.sheet.specs.Bytes.{byte_at, u16_at}
 use Rattle.sheet.specs.Record.{count_of, rate_of, kind_of, option_of, record_at, kind, first, next}
 use Rattle.sheet.specs.Kinds.{Chain, empty, values, nodes, modes, steps, row_of, is_node, is_value}
@@ -56,6 +56,21 @@ holds (values n) ks = eqb (length ks) n && every is_value ks
 holds nodes ks = every is_node ks
 holds modes ks = every (λ k. eqb k 51) ks
 holds steps ks = every (λ k. eqb k 52) ks
+
+-- the same in two parts: a record of this kind may stand in it, and it may have this many
+unfoldable pub allows : Chain → ℕ → Bool
+allows empty k = false
+allows (values n) k = is_value k
+allows nodes k = is_node k
+allows modes k = eqb k 51
+allows steps k = eqb k 52
+
+unfoldable pub counts : Chain → ℕ → Bool
+counts empty m = true
+counts (values n) m = eqb m n
+counts nodes m = true
+counts modes m = true
+counts steps m = true
 
 unfoldable pub chain_ok : List ℕ → ℕ → Bool
 chain_ok s i = holds (row_of (kind s i)).chain (map (kind s) (spine (records s (first s i))))

@@ -1,12 +1,19 @@
--- Laws of tests, of `all`, `every` and `sum`, and of the part of a slice from a place on
-use Rattle.std.specs.Prelude.{◌≡◌, refl, Bool, true, false, ◌&&◌, List, [], ◌∷◌, ℕ, zero, suc, ◌+◌, ◌-◌, ◌≤◌, ◌<◌, length, take, drop}
+-- Laws of tests, of `all`, `every` and `sum`, of the part of a slice from a place on, and of a table of kinds
+use Rattle.std.specs.Prelude.{◌≡◌, refl, Bool, true, false, ◌&&◌, List, [], ◌∷◌, ℕ, zero, suc, ◌+◌, ◌-◌, ◌≤◌, ◌<◌, length, take, drop, get_or}
 use Rattle.std.proofs.Common.{sym, ap₂, ◌∙◌, arith, add-one, length-drop, take_all}
 use Rattle.std.proofs.Math.Decide.{ℕ_discrete, dec_lt}
+use Rattle.std.proofs.lemmas.List.{get_or-map}
 use Rattle.sheet.specs.Checks.{all, every, sum}
+use Rattle.sheet.specs.Numbers.{kind_number, numbers_of}
+use Rattle.sheet.specs.declared.kinds.Kind.{Kind}
 
 -- `&s[a..]` is what is left of s from a on
 pub rest : {A : Type 0} (s : List A) (a : ℕ) → take (length s - a) (drop a s) ≡ drop a s
 rest s a = take_all (length s - a) (drop a s) (omega (arith, length-drop a s))
+
+-- the number at a place of a table of kinds is that kind's
+pub number-at : (ks : List Kind) (i : ℕ) (d : Kind) → i < length ks → get_or (numbers_of ks) i 0 ≡ kind_number (get_or ks i d)
+number-at ks i d h = get_or-map kind_number ks i d 0 h
 
 -- ---- tests
 pub never : {A : Type 0} → true ≡ false → A

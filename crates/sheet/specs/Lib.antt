@@ -4,7 +4,7 @@ pub mod Value
 pub mod Kinds
 pub mod Tree
 pub mod Checks
-pub mod Codes
+pub mod Numbers
 pub mod Decoding
 pub mod Links
 pub mod Below

@@ -1,7 +1,7 @@
 -- Laws of links: where they lead, how they are counted, that no record stands twice, and what is left of a chain
 use Rattle.std.proofs.Math.Path.{◌≡◌, refl, sym, ap}
 use Rattle.std.proofs.Common.{◌∙◌, length-set, get_or-set_same, get_or-set_other}
-use Rattle.std.specs.Prelude.{Bool, cond, not, ◌&&◌, ◌||◌, ◌≢◌, leb, ltb, set, replicate}
+use Rattle.std.specs.Prelude.{Bool, cond, not, ◌&&◌, ◌≢◌, leb, ltb, set, replicate}
 use Rattle.std.proofs.Math.Bool.{true, false}
 use mathlib.Core.List.{List, [], ◌∷◌}
 use Prim.Native.Nat.{ℕ, zero, suc, ◌+◌, ◌-◌, ◌*◌, ◌≤◌, ◌<◌, max}
@@ -12,13 +12,11 @@ use Rattle.std.proofs.Math.ListN.{length}
 use borrow.Author.Tests.{eq-eqb, ne_eqb, eqb-true, ltb-true, ltb-false, lt-ltb, le-ltb, le-leb, lt-leb}
 use Rattle.tree.specs.Tree.{node}
 use Rattle.tree.specs.Forest.{Forest, build, whole, root, whole-nil, whole-node}
-use Rattle.sheet.specs.Kinds.{is_node, is_value}
+use Rattle.sheet.specs.Kinds.{Chain, empty, values, nodes, modes, steps, is_node, is_value}
 use Rattle.sheet.specs.Tree.{spine, depth}
-use Rattle.sheet.specs.Checks.{all, every, hit, sum, holds, lowest}
+use Rattle.sheet.specs.Checks.{all, every, hit, sum, holds, allows, counts, lowest}
 use Rattle.sheet.specs.Links.{at, nodes_at, Links, Linked, hits_at, Counted, once_at, along, chain_at, depth_at, shape_of}
-use Rattle.sheet.specs.Laws.{both, and_assoc, and_comm, and-true, and-false, all-at, every-same, sum-suc, sum_one, sum-two}
-use Rattle.sheet.specs.Codes.{chain_of, class_of, want_of}
-use Rattle.sheet.specs.Table.{entry}
+use Rattle.sheet.specs.Laws.{both, and_assoc, and_comm, and-true, all-at, sum-suc, sum_one, sum-two}
 
 -- ---- how links are counted
 pub hit-is : (l j : ℕ) → l ≡ j → hit l j ≡ 1
@@ -179,37 +177,15 @@ pub depth-nil : (k f x : ℕ → ℕ) (n : ℕ) → depth_at k f x n 0 ≡ 0
 unfolding depth
 depth-nil k f x n = rw (whole-nil f x n)
 
--- ---- what a chain's code says of its members: codes 0 to 2 are the number of values, and from 3 on the number is free
-holds-none : (p : ℕ → Bool) (ks : List ℕ) → eqb (length ks) 0 ≡ (every p ks && eqb (length ks) 0)
-unfolding every
-holds-none p [] = refl
-holds-none p (k ∷ ks) = rw (eqb-suc-zero (length ks)) (sym (and-false (p k && every p ks)))
-
-holds-some : (n : ℕ) (ks : List ℕ) → (eqb (length ks) n && every is_value ks) ≡ (every (λ k. eqb (class_of k) 2) ks && eqb (length ks) n)
-holds-some n ks = and_comm (eqb (length ks) n) (every is_value ks) ∙ ap (λ (b : Bool). b && eqb (length ks) n) (every-same is_value _ (λ k. sym (entry k).value) ks)
-
-holds-any : (p q : ℕ → Bool) → ((k : ℕ) → q k ≡ p k) → (ks : List ℕ) → every p ks ≡ (every q ks && true)
-holds-any p q h ks = every-same p q (λ k. sym (h k)) ks ∙ sym (and-true (every q ks))
-
-pub holds-is : (c : ℕ) (ks : List ℕ) → c ≤ 5 → holds (chain_of c) ks ≡ (every (λ k. eqb (class_of k) (want_of c)) ks && (ltb 2 c || eqb (length ks) c))
-unfolding holds chain_of
-holds-is zero ks h = holds-none (λ k. eqb (class_of k) 2) ks
-holds-is (suc zero) ks h = holds-some 1 ks
-holds-is (suc (suc zero)) ks h = holds-some 2 ks
-holds-is (suc (suc (suc zero))) ks h = holds-any is_node (λ k. eqb (class_of k) 3) (λ k. (entry k).node) ks
-holds-is (suc (suc (suc (suc zero)))) ks h = holds-any (λ k. eqb k 51) (λ k. eqb (class_of k) 4) (λ k. (entry k).mode) ks
-holds-is (suc (suc (suc (suc (suc zero))))) ks h = holds-any (λ k. eqb k 52) (λ k. eqb (class_of k) 5) (λ k. (entry k).step) ks
-holds-is (suc (suc (suc (suc (suc (suc c)))))) ks h = let z : ⊥ = omega arith in absurd z
-
-pub holds-nil : (c : ℕ) → c ≤ 5 → (eqb c 0 || ltb 2 c) ≡ holds (chain_of c) []
-unfolding holds chain_of every
-holds-nil zero h = refl
-holds-nil (suc zero) h = refl
-holds-nil (suc (suc zero)) h = refl
-holds-nil (suc (suc (suc zero))) h = refl
-holds-nil (suc (suc (suc (suc zero)))) h = refl
-holds-nil (suc (suc (suc (suc (suc zero))))) h = refl
-holds-nil (suc (suc (suc (suc (suc (suc c)))))) h = let z : ⊥ = omega arith in absurd z
+-- ---- what a chain holds: each member is allowed, and they are as many as it counts
+pub holds-both : (c : Chain) (ks : List ℕ) → holds c ks ≡ (every (allows c) ks && counts c (length ks))
+unfolding holds allows counts every
+holds-both empty [] = refl
+holds-both empty (k ∷ ks) = eqb-suc-zero (length ks)
+holds-both (values n) ks = and_comm (eqb (length ks) n) (every is_value ks)
+holds-both nodes ks = sym (and-true (every is_node ks))
+holds-both modes ks = sym (and-true (every (λ k. eqb k 51) ks))
+holds-both steps ks = sym (and-true (every (λ k. eqb k 52) ks))
 
 -- THE INVARIANT of a loop along a chain from start on, now at j: what is counted so far with what is left makes the whole
 pub record Walked (p : ℕ → Bool) (k f x : ℕ → ℕ) (n start : ℕ) (a : Bool) (c j : ℕ) : Type 0 where

@@ -1,5 +1,5 @@
 -- The checks of links over tables: k, f and x give a record's kind, first and next, n how many records there are. Those of a sheet are these at its own fields.
-use Rattle.std.specs.Prelude.{◌≡◌, Bool, cond, ◌&&◌, ◌||◌, List, [], ◌∷◌, map, ◌≢◌, ℕ, ◌+◌, ◌*◌, ◌≤◌, ◌<◌, leb, ltb, eqb, length, get_or}
+use Rattle.std.specs.Prelude.{◌≡◌, Bool, true, cond, ◌&&◌, ◌||◌, List, [], ◌∷◌, map, ◌≢◌, ℕ, ◌+◌, ◌*◌, ◌≤◌, ◌<◌, leb, ltb, eqb, length, get_or}
 use Rattle.tree.specs.Forest.{Forest, whole, root}
 use Rattle.sheet.specs.Record.{count_of, kind, first, next, record_at}
 use Rattle.sheet.specs.Kinds.{row_of, is_node}
@@ -79,15 +79,18 @@ depth_in ks fs ns j = depth_at (at ks) (at fs) (at ns) (length fs) j
 abbrev pub shape_in : List ℕ → List ℕ → List ℕ → ℕ
 shape_in ks fs ns = shape_of (at ks) (at fs) (at ns) (length fs)
 
--- ---- what the tables hold after a pass over the records, and after all checks
+-- ---- what the tables hold
 pub record Tables (s ks fs ns : List ℕ) : Type 0 where
   pub kind_at : (i : ℕ) → i < count_of s → at ks i ≡ kind s i
   pub first_at : (i : ℕ) → i < count_of s → at fs i ≡ first s i
   pub next_at : (i : ℕ) → i < count_of s → at ns i ≡ next s i
 
+-- after a pass over the records: a kind where check 3 passes the record, and every link
 pub record Decoded (s ks fs ns : List ℕ) (r : ℕ) : Type 0 where
   pub answer : r ≡ lowest (check 3 (all (λ i. record_ok (record_at s i)) (count_of s)) ∷ check 4 (all (links_ok s) (count_of s)) ∷ [])
-  pub tables : Tables s ks fs ns
+  pub kind_at : (i : ℕ) → i < count_of s → record_ok (record_at s i) ≡ true → at ks i ≡ kind s i
+  pub first_at : (i : ℕ) → i < count_of s → at fs i ≡ first s i
+  pub next_at : (i : ℕ) → i < count_of s → at ns i ≡ next s i
 
 -- tables of n rows have one for every record of a sheet whose length check 1 accepts
 pub record Rows (s : List ℕ) (n : ℕ) : Type 0 where

@@ -1,279 +1,229 @@
-// The table of kinds, by number: how many options a kind has, how many of its eight numbers it uses, what its chain
-// holds (0 nothing, 1 one value, 2 two values, 3 nodes, 4 modes, 5 steps), and what it is itself, by the code of the
-// chains that hold it (2 a value, 3 a node, 4 a mode, 5 a step). A number that is no kind's has zeros.
-ghost use Rattle.std.specs.Prelude.{◌≡◌, ◌≤◌, get_or};
+// The kinds of records as enums, one inside another: what plays a kind in a way of its own matches on its own enum alone.
+ghost use Rattle.std.specs.Prelude.{◌≡◌, ◌≤◌};
 ghost use Rattle.sheet.specs.Kinds.{row_of, is_node, is_processor};
-ghost use Rattle.sheet.specs.Codes.{chain_of, class_of, options_table, numbers_table, chains_table, classes_table};
+ghost use Rattle.sheet.specs.Checks.{allows, counts};
+ghost use Rattle.sheet.specs.Numbers.{kind_number, Numbered, chain_of};
 
-pub const OPTIONS: [u8; 53] = [
-    0, // 0
-    1, // Sine
-    1, // Square
-    1, // Sawtooth
-    1, // Triangle
-    1, // Fm
-    2, // Super
-    1, // Impact
-    1, // Env
-    3, // Noise
-    1, // Dust
-    1, // Mix
-    1, // Mul
-    1, // Chain
-    0, // 14
-    0, // 15
-    0, // 16
-    0, // 17
-    0, // 18
-    0, // 19
-    0, // 20
-    1, // Gain
-    1, // Lowpass
-    1, // Highpass
-    1, // Bandpass
-    1, // Notch
-    1, // Peak
-    1, // Lowshelf
-    1, // Highshelf
-    1, // Delay
-    1, // Reverb
-    1, // Modal
-    6, // Drive
-    1, // Tremolo
-    1, // Chorus
-    1, // Compress
-    0, // 36
-    0, // 37
-    0, // 38
-    0, // 39
-    0, // 40
-    1, // Const
-    2, // Slide
-    4, // Lfo
-    1, // Arp
-    1, // EnvMod
-    1, // Rand
-    0, // 47
-    0, // 48
-    0, // 49
-    0, // 50
-    1, // Mode
-    1, // Step
-];
-
-pub const NUMBERS: [u8; 53] = [
-    0, // 0
-    0, // Sine
-    0, // Square
-    0, // Sawtooth
-    0, // Triangle
-    1, // Fm
-    2, // Super
-    2, // Impact
-    5, // Env
-    0, // Noise
-    2, // Dust
-    0, // Mix
-    0, // Mul
-    0, // Chain
-    0, // 14
-    0, // 15
-    0, // 16
-    0, // 17
-    0, // 18
-    0, // 19
-    0, // 20
-    0, // Gain
-    1, // Lowpass
-    1, // Highpass
-    1, // Bandpass
-    1, // Notch
-    2, // Peak
-    1, // Lowshelf
-    1, // Highshelf
-    2, // Delay
-    2, // Reverb
-    1, // Modal
-    0, // Drive
-    2, // Tremolo
-    3, // Chorus
-    5, // Compress
-    0, // 36
-    0, // 37
-    0, // 38
-    0, // 39
-    0, // 40
-    1, // Const
-    3, // Slide
-    3, // Lfo
-    1, // Arp
-    7, // EnvMod
-    5, // Rand
-    0, // 47
-    0, // 48
-    0, // 49
-    0, // 50
-    3, // Mode
-    1, // Step
-];
-
-pub const CHAINS: [u8; 53] = [
-    0, // 0
-    1, // Sine
-    2, // Square
-    1, // Sawtooth
-    1, // Triangle
-    2, // Fm
-    1, // Super
-    0, // Impact
-    0, // Env
-    0, // Noise
-    0, // Dust
-    3, // Mix
-    3, // Mul
-    3, // Chain
-    0, // 14
-    0, // 15
-    0, // 16
-    0, // 17
-    0, // 18
-    0, // 19
-    0, // 20
-    1, // Gain
-    1, // Lowpass
-    1, // Highpass
-    1, // Bandpass
-    1, // Notch
-    1, // Peak
-    1, // Lowshelf
-    1, // Highshelf
-    0, // Delay
-    0, // Reverb
-    4, // Modal
-    1, // Drive
-    0, // Tremolo
-    0, // Chorus
-    0, // Compress
-    0, // 36
-    0, // 37
-    0, // 38
-    0, // 39
-    0, // 40
-    0, // Const
-    0, // Slide
-    0, // Lfo
-    5, // Arp
-    0, // EnvMod
-    0, // Rand
-    0, // 47
-    0, // 48
-    0, // 49
-    0, // 50
-    0, // Mode
-    0, // Step
-];
-
-pub const CLASSES: [u8; 53] = [
-    0, // 0
-    3, // Sine
-    3, // Square
-    3, // Sawtooth
-    3, // Triangle
-    3, // Fm
-    3, // Super
-    3, // Impact
-    3, // Env
-    3, // Noise
-    3, // Dust
-    3, // Mix
-    3, // Mul
-    3, // Chain
-    0, // 14
-    0, // 15
-    0, // 16
-    0, // 17
-    0, // 18
-    0, // 19
-    0, // 20
-    3, // Gain
-    3, // Lowpass
-    3, // Highpass
-    3, // Bandpass
-    3, // Notch
-    3, // Peak
-    3, // Lowshelf
-    3, // Highshelf
-    3, // Delay
-    3, // Reverb
-    3, // Modal
-    3, // Drive
-    3, // Tremolo
-    3, // Chorus
-    3, // Compress
-    0, // 36
-    0, // 37
-    0, // 38
-    0, // 39
-    0, // 40
-    2, // Const
-    2, // Slide
-    2, // Lfo
-    2, // Arp
-    2, // EnvMod
-    2, // Rand
-    0, // 47
-    0, // 48
-    0, // 49
-    0, // 50
-    4, // Mode
-    5, // Step
-];
-
-// A table is lent, since a constant array that is indexed is laid out anew at each use.
-fn entry(table: &[u8; 53], k: u8) -> u8
-    ensures { result ≡ get_or table.now k 0 }
-{
-    let i = usize::from(k);
-    if i < 53 { table[i] } else { 0 }
+// What makes samples of nothing.
+#[derive(Clone, Copy, PartialEq, Eq)]
+pub enum Src {
+    Sine,
+    Square,
+    Sawtooth,
+    Triangle,
+    Fm,
+    Super,
+    Impact,
+    Env,
+    Noise,
+    Dust,
 }
 
-pub fn options(table: &[u8; 53], k: u8) -> u8
-    requires { table.now ≡ options_table }
-    ensures { result ≡ (row_of k).options }
-{
-    entry(table, k)
+// What joins the samples of any number of nodes.
+#[derive(Clone, Copy, PartialEq, Eq)]
+pub enum Fold {
+    Mix,
+    Mul,
 }
 
-pub fn numbers(table: &[u8; 53], k: u8) -> u8
-    requires { table.now ≡ numbers_table }
-    ensures { (result ≡ (row_of k).numbers) × (result ≤ 7) }
-{
-    entry(table, k)
+// The filters of the cookbook.
+#[derive(Clone, Copy, PartialEq, Eq)]
+pub enum Biquad {
+    Lowpass,
+    Highpass,
+    Bandpass,
+    Notch,
+    Peak,
+    Lowshelf,
+    Highshelf,
 }
 
-pub fn chain(table: &[u8; 53], k: u8) -> u8
-    requires { table.now ≡ chains_table }
-    ensures { (chain_of result ≡ (row_of k).chain) × (result ≤ 5) }
-{
-    entry(table, k)
+// What changes the samples that it is given, the filters apart.
+#[derive(Clone, Copy, PartialEq, Eq)]
+pub enum Proc {
+    Gain,
+    Delay,
+    Reverb,
+    Modal,
+    Drive,
+    Tremolo,
+    Chorus,
+    Compress,
 }
 
-pub fn class(table: &[u8; 53], k: u8) -> u8
-    requires { table.now ≡ classes_table }
-    ensures { result ≡ class_of k }
-{
-    entry(table, k)
+// What moves a number of a node.
+#[derive(Clone, Copy, PartialEq, Eq)]
+pub enum Val {
+    Const,
+    Slide,
+    Lfo,
+    Arp,
+    EnvMod,
+    Rand,
 }
 
-// Processors are 21 to 35, and with 1 to 13 they are the nodes.
-pub fn is_processor(k: u8) -> bool
-    ensures { result ≡ is_processor k }
-{
-    (21 <= k) & (k <= 35)
+#[derive(Clone, Copy, PartialEq, Eq)]
+pub enum Kind {
+    Src(Src),
+    Fold(Fold),
+    Chain,
+    Biquad(Biquad),
+    Proc(Proc),
+    Val(Val),
+    Mode,
+    Step,
 }
 
-pub fn is_node(k: u8) -> bool
-    ensures { result ≡ is_node k }
-{
-    ((1 <= k) & (k <= 13)) | is_processor(k)
+// What the chain of a record is made of.
+#[derive(Clone, Copy, PartialEq, Eq)]
+pub enum Chain {
+    Empty,
+    Values(u8),
+    Nodes,
+    Modes,
+    Steps,
+}
+
+impl Kind {
+    // The kind of a number of the sheet; many numbers are no kind's. As a `TryFrom` it would need an error that says no more than none.
+    #[tactic(auto, unfolding(crate::specs::Numbers::Numbered, crate::specs::Numbers::src_number, crate::specs::Numbers::fold_number, crate::specs::Numbers::biquad_number, crate::specs::Numbers::proc_number, crate::specs::Numbers::val_number, crate::specs::Numbers::kind_number))]
+    pub fn numbered(k: u8) -> Option<Kind>
+        ensures { Numbered k result }
+    {
+        match k {
+            1 => Some(Kind::Src(Src::Sine)),
+            2 => Some(Kind::Src(Src::Square)),
+            3 => Some(Kind::Src(Src::Sawtooth)),
+            4 => Some(Kind::Src(Src::Triangle)),
+            5 => Some(Kind::Src(Src::Fm)),
+            6 => Some(Kind::Src(Src::Super)),
+            7 => Some(Kind::Src(Src::Impact)),
+            8 => Some(Kind::Src(Src::Env)),
+            9 => Some(Kind::Src(Src::Noise)),
+            10 => Some(Kind::Src(Src::Dust)),
+            11 => Some(Kind::Fold(Fold::Mix)),
+            12 => Some(Kind::Fold(Fold::Mul)),
+            13 => Some(Kind::Chain),
+            21 => Some(Kind::Proc(Proc::Gain)),
+            22 => Some(Kind::Biquad(Biquad::Lowpass)),
+            23 => Some(Kind::Biquad(Biquad::Highpass)),
+            24 => Some(Kind::Biquad(Biquad::Bandpass)),
+            25 => Some(Kind::Biquad(Biquad::Notch)),
+            26 => Some(Kind::Biquad(Biquad::Peak)),
+            27 => Some(Kind::Biquad(Biquad::Lowshelf)),
+            28 => Some(Kind::Biquad(Biquad::Highshelf)),
+            29 => Some(Kind::Proc(Proc::Delay)),
+            30 => Some(Kind::Proc(Proc::Reverb)),
+            31 => Some(Kind::Proc(Proc::Modal)),
+            32 => Some(Kind::Proc(Proc::Drive)),
+            33 => Some(Kind::Proc(Proc::Tremolo)),
+            34 => Some(Kind::Proc(Proc::Chorus)),
+            35 => Some(Kind::Proc(Proc::Compress)),
+            41 => Some(Kind::Val(Val::Const)),
+            42 => Some(Kind::Val(Val::Slide)),
+            43 => Some(Kind::Val(Val::Lfo)),
+            44 => Some(Kind::Val(Val::Arp)),
+            45 => Some(Kind::Val(Val::EnvMod)),
+            46 => Some(Kind::Val(Val::Rand)),
+            51 => Some(Kind::Mode),
+            52 => Some(Kind::Step),
+            _ => None,
+        }
+    }
+
+    // How many options it has.
+    #[tactic(auto, unfolding(crate::specs::Numbers::src_number, crate::specs::Numbers::fold_number, crate::specs::Numbers::biquad_number, crate::specs::Numbers::proc_number, crate::specs::Numbers::val_number, crate::specs::Numbers::kind_number, crate::specs::Kinds::lookup))]
+    pub fn options(self) -> u8
+        ensures { result ≡ (row_of (kind_number self)).options }
+    {
+        match self {
+            Kind::Proc(Proc::Drive) => 6,
+            Kind::Val(Val::Lfo) => 4,
+            Kind::Src(Src::Noise) => 3,
+            Kind::Src(Src::Super) | Kind::Val(Val::Slide) => 2,
+            _ => 1,
+        }
+    }
+
+    // How many of its eight numbers it uses.
+    #[tactic(auto, unfolding(crate::specs::Numbers::src_number, crate::specs::Numbers::fold_number, crate::specs::Numbers::biquad_number, crate::specs::Numbers::proc_number, crate::specs::Numbers::val_number, crate::specs::Numbers::kind_number, crate::specs::Kinds::lookup))]
+    pub fn numbers(self) -> u8
+        ensures { (result ≡ (row_of (kind_number self)).numbers) × (result ≤ 7) }
+    {
+        match self {
+            Kind::Src(Src::Fm) => 1,
+            Kind::Src(Src::Super | Src::Impact | Src::Dust) => 2,
+            Kind::Src(Src::Env) => 5,
+            Kind::Biquad(Biquad::Peak) => 2,
+            Kind::Biquad(_) => 1,
+            Kind::Proc(Proc::Modal) => 1,
+            Kind::Proc(Proc::Delay | Proc::Reverb | Proc::Tremolo) => 2,
+            Kind::Proc(Proc::Chorus) => 3,
+            Kind::Proc(Proc::Compress) => 5,
+            Kind::Val(Val::Const | Val::Arp) => 1,
+            Kind::Val(Val::Slide | Val::Lfo) => 3,
+            Kind::Val(Val::Rand) => 5,
+            Kind::Val(Val::EnvMod) => 7,
+            Kind::Mode => 3,
+            Kind::Step => 1,
+            _ => 0,
+        }
+    }
+
+    #[tactic(auto, unfolding(crate::specs::Numbers::src_number, crate::specs::Numbers::fold_number, crate::specs::Numbers::biquad_number, crate::specs::Numbers::proc_number, crate::specs::Numbers::val_number, crate::specs::Numbers::kind_number, crate::specs::Kinds::lookup, crate::specs::Numbers::chain_of))]
+    pub fn chain(self) -> Chain
+        ensures { chain_of result ≡ (row_of (kind_number self)).chain }
+    {
+        match self {
+            Kind::Src(Src::Square | Src::Fm) => Chain::Values(2),
+            Kind::Src(Src::Impact | Src::Env | Src::Noise | Src::Dust) => Chain::Empty,
+            Kind::Src(_) | Kind::Biquad(_) => Chain::Values(1),
+            Kind::Fold(_) | Kind::Chain => Chain::Nodes,
+            Kind::Proc(Proc::Gain | Proc::Drive) => Chain::Values(1),
+            Kind::Proc(Proc::Modal) => Chain::Modes,
+            Kind::Val(Val::Arp) => Chain::Steps,
+            _ => Chain::Empty,
+        }
+    }
+
+    #[tactic(auto, unfolding(crate::specs::Numbers::src_number, crate::specs::Numbers::fold_number, crate::specs::Numbers::biquad_number, crate::specs::Numbers::proc_number, crate::specs::Numbers::val_number, crate::specs::Numbers::kind_number))]
+    pub fn is_processor(self) -> bool
+        ensures { result ≡ is_processor (kind_number self) }
+    {
+        matches!(self, Kind::Biquad(_) | Kind::Proc(_))
+    }
+
+    #[tactic(auto, unfolding(crate::specs::Numbers::src_number, crate::specs::Numbers::fold_number, crate::specs::Numbers::biquad_number, crate::specs::Numbers::proc_number, crate::specs::Numbers::val_number, crate::specs::Numbers::kind_number))]
+    pub fn is_node(self) -> bool
+        ensures { result ≡ is_node (kind_number self) }
+    {
+        !matches!(self, Kind::Val(_) | Kind::Mode | Kind::Step)
+    }
+}
+
+impl Chain {
+    // Whether a record of the kind may stand in it.
+    #[tactic(auto, unfolding(crate::specs::Checks::allows, crate::specs::Numbers::chain_of, crate::specs::Numbers::src_number, crate::specs::Numbers::fold_number, crate::specs::Numbers::biquad_number, crate::specs::Numbers::proc_number, crate::specs::Numbers::val_number, crate::specs::Numbers::kind_number))]
+    pub fn allows(self, kind: Kind) -> bool
+        ensures { result ≡ allows (chain_of self) (kind_number kind) }
+    {
+        match self {
+            Chain::Empty => false,
+            Chain::Values(_) => matches!(kind, Kind::Val(_)),
+            Chain::Nodes => kind.is_node(),
+            Chain::Modes => kind == Kind::Mode,
+            Chain::Steps => kind == Kind::Step,
+        }
+    }
+
+    // Whether it may have n records, where each may stand in it.
+    #[tactic(auto, unfolding(crate::specs::Checks::counts, crate::specs::Numbers::chain_of))]
+    pub fn counts(self, n: usize) -> bool
+        ensures { result ≡ counts (chain_of self) n }
+    {
+        match self {
+            Chain::Values(m) => n == usize::from(m),
+            _ => true,
+        }
+    }
 }

@@ -1,20 +1,23 @@
-// The patch sheet: a header of 24 bytes, then records of 40 bytes. A record is read from the part of the sheet that
-// starts at its first byte, `&sheet[24 + 40 * i..]`.
+// The patch sheet: a header of 24 bytes, then records of 40 bytes. A record is read by its number.
 #![tactic(auto)]
 
 pub mod kinds;
 
 ghost use Rattle.std.specs.Prelude.{◌≡◌, ◌+◌, ◌*◌, ◌≤◌, ◌<◌, length};
 ghost use Rattle.sheet.specs.Bytes.{u16_at, u32_at, u64_at};
-ghost use Rattle.sheet.specs.Record.{count_of, rate_of, length_of, path_of, kind_of, option_of, first_of, next_of, bits_of, number_of, seed_of, kind as record_kind};
-ghost use Rattle.sheet.specs.Value.{adsr_in, value_of};
+ghost use Rattle.sheet.specs.Record.{count_of, rate_of, length_of, path_of, kind_of, option_of, first_of, next_of, bits_of, number_of, seed_of, record_at};
+ghost use Rattle.sheet.specs.Numbers.{Numbered, val_number};
+ghost use Rattle.sheet.specs.Value.{adsr_in, value_as};
 
-// Two, four and eight bytes as a number, the lowest first.
-pub fn half(s: &[u8], at: usize) -> u32
+use kinds::{Kind, Val};
+use std::marker::Model;
+
+// Two, four and eight bytes as a number, the lowest first; by a place, since a part of the slice would be cut for one read.
+pub fn half(s: &[u8], at: usize) -> u16
     requires { at + 2 ≤ length s.now }
-    ensures { (result ≡ u16_at s.now at) × (result < 65536) }
+    ensures { result ≡ u16_at s.now at }
 {
-    u32::from(u16::from_le_bytes([s[at], s[at + 1]]))
+    u16::from_le_bytes([s[at], s[at + 1]])
 }
 
 fn word(s: &[u8], at: usize) -> u32
@@ -40,13 +43,14 @@ pub fn double(s: &[u8], at: usize) -> u64
     ])
 }
 
-// ---- the header
+// ---- the header, which has no type of its own as a record has: who has the sheet reads one number of it, and a header made for that would be
+// opened at once
 
 pub fn count(sheet: &[u8]) -> usize
     requires { 24 ≤ length sheet.now }
     ensures { (result ≡ count_of sheet.now) × (result < 65536) }
 {
-    half(sheet, 0) as usize
+    usize::from(half(sheet, 0))
 }
 
 pub fn rate(sheet: &[u8]) -> u32
@@ -71,71 +75,7 @@ pub fn path(sheet: &[u8]) -> u64
     double(sheet, 16)
 }
 
-// ---- a record, by the bytes from its first on
-
-pub fn kind(r: &[u8]) -> u8
-    requires { 40 ≤ length r.now }
-    ensures { result ≡ kind_of r.now }
-{
-    r[0]
-}
-
-// The kind of record i.
-pub fn kind_at(sheet: &[u8], i: usize) -> u8
-    requires { 24 + 40 * (i + 1) ≤ length sheet.now }
-    ensures { result ≡ record_kind sheet.now i }
-{
-    let a = 24 + 40 * i;
-    kind(&sheet[a..])
-}
-
-pub fn option(r: &[u8]) -> u8
-    requires { 40 ≤ length r.now }
-    ensures { result ≡ option_of r.now }
-{
-    r[1]
-}
-
-// The record that opens its chain, 0 for none.
-pub fn first(r: &[u8]) -> usize
-    requires { 40 ≤ length r.now }
-    ensures { (result ≡ first_of r.now) × (result < 65536) }
-{
-    half(r, 2) as usize
-}
-
-// The record after it in its chain, 0 for none.
-pub fn next(r: &[u8]) -> usize
-    requires { 40 ≤ length r.now }
-    ensures { (result ≡ next_of r.now) × (result < 65536) }
-{
-    half(r, 4) as usize
-}
-
-// Number k by its bits, and as a float: every NaN pattern is NaN.
-pub fn bits(r: &[u8], k: usize) -> u32
-    requires { (40 ≤ length r.now) × (k < 8) }
-    ensures { result ≡ bits_of r.now k }
-{
-    word(r, 8 + 4 * k)
-}
-
-pub fn number(r: &[u8], k: usize) -> f32
-    requires { (40 ≤ length r.now) × (k < 8) }
-    ensures { result ≡ number_of r.now k }
-{
-    float::from_bits(bits(r, k))
-}
-
-// Rand's seed: the 8 bytes after its rate.
-pub fn seed(r: &[u8]) -> u64
-    requires { 40 ≤ length r.now }
-    ensures { result ≡ seed_of r.now }
-{
-    double(r, 20)
-}
-
-// ---- a value record, read into one of six cases
+// ---- the numbers of a value, in one of six cases
 
 // Arp carries the record of its first step.
 #[derive(Clone, Copy)]
@@ -148,53 +88,143 @@ pub enum Value {
     Rand(dsl::Rand),
 }
 
-// An envelope is the first five numbers of its record.
-pub fn adsr(r: &[u8]) -> dsl::Adsr
-    requires { 40 ≤ length r.now }
-    ensures { result ≡ adsr_in r.now }
-{
-    dsl::Adsr {
-        a: number(r, 0),
-        d: number(r, 1),
-        s: number(r, 2),
-        r: number(r, 3),
-        punch: number(r, 4),
-    }
+// ---- a record
+
+// A record of a sheet. A clause sees its bytes from the first on, of which there are forty at least.
+#[derive(Drop)]
+pub struct Record<'a> {
+    bytes: &'a [u8],
 }
 
-// A kind that is no value's reads as a Const.
-#[tactic(auto, unfolding(crate::specs::Value::value_of))]
-pub fn read_value(r: &[u8]) -> Value
-    requires { 40 ≤ length r.now }
-    ensures { result ≡ value_of r.now }
-{
-    match kind(r) {
-        42 => Value::Slide(dsl::Slide {
-            from: number(r, 0),
-            to: number(r, 1),
-            secs: number(r, 2),
-            curve: dsl::Curve::from(option(r)),
-        }),
-        43 => Value::Lfo(dsl::Lfo {
-            shape: dsl::Shape::from(option(r)),
-            rate: number(r, 0),
-            depth: number(r, 1),
-            center: number(r, 2),
-        }),
-        44 => Value::Arp {
-            rate: number(r, 0),
-            first: first(r),
-        },
-        45 => Value::EnvMod(dsl::EnvMod {
-            env: adsr(r),
-            from: number(r, 5),
-            to: number(r, 6),
-        }),
-        46 => Value::Rand(dsl::Rand {
-            from: number(r, 0),
-            to: number(r, 1),
-            rate: number(r, 2),
-        }),
-        _ => Value::Const(number(r, 0)),
+impl<'a> Model for Record<'a> {
+    ghost use Rattle.std.specs.Prelude.{List, ℕ, ◌≤◌, length};
+
+    ghost Value = { List ℕ };
+
+    ghost view = { λ r. r.bytes.now };
+
+    ghost invariant = { λ r. 40 ≤ length r.bytes.now };
+}
+
+impl<'a> Record<'a> {
+    pub fn new(bytes: &'a [u8]) -> Record<'a>
+        requires { 40 ≤ length bytes.now }
+        ensures { result ≡ bytes.now }
+    {
+        Record { bytes }
+    }
+
+    // Record i of a sheet.
+    pub fn at(sheet: &'a [u8], i: usize) -> Record<'a>
+        requires { 24 + 40 * (i + 1) ≤ length sheet.now }
+        ensures { result ≡ record_at sheet.now i }
+    {
+        Record::new(&sheet[24 + 40 * i..])
+    }
+
+    pub fn bytes(&self) -> &'a [u8]
+        ensures { (result.now ≡ self.now) × (40 ≤ length self.now) }
+    {
+        self.bytes
+    }
+
+    // None where the number is no kind's.
+    pub fn kind(&self) -> Option<Kind>
+        ensures { Numbered (kind_of self.now) result }
+    {
+        Kind::numbered(self.bytes[0])
+    }
+
+    // The sheet's own number: which enum it is one of depends on the kind, and `From<u8>` of that enum makes it.
+    pub fn option(&self) -> u8
+        ensures { result ≡ option_of self.now }
+    {
+        self.bytes[1]
+    }
+
+    // The record that opens its chain; 0 for none, as the sheet has it (`layout::Links`). It and the next are two functions by their names: one of a place
+    // would have each caller say 2 or 4. That both fit in two bytes is said, since `usize::from` does not hand it on.
+    pub fn first(&self) -> usize
+        ensures { (result ≡ first_of self.now) × (result < 65536) }
+    {
+        usize::from(half(self.bytes, 2))
+    }
+
+    // The record after it in its chain, 0 for none too.
+    pub fn next(&self) -> usize
+        ensures { (result ≡ next_of self.now) × (result < 65536) }
+    {
+        usize::from(half(self.bytes, 4))
+    }
+
+    // Number k by its bits, and as a float: every NaN pattern is NaN.
+    pub fn bits(&self, k: usize) -> u32
+        requires { k < 8 }
+        ensures { result ≡ bits_of self.now k }
+    {
+        word(self.bytes, 8 + 4 * k)
+    }
+
+    pub fn number(&self, k: usize) -> f32
+        requires { k < 8 }
+        ensures { result ≡ number_of self.now k }
+    {
+        float::from_bits(self.bits(k))
+    }
+
+    // Rand's seed: the 8 bytes after its rate.
+    pub fn seed(&self) -> u64
+        ensures { result ≡ seed_of self.now }
+    {
+        double(self.bytes, 20)
+    }
+
+    // An envelope is the first five numbers of its record.
+    pub fn adsr(&self) -> dsl::Adsr
+        ensures { result ≡ adsr_in self.now }
+    {
+        dsl::Adsr {
+            a: self.number(0),
+            d: self.number(1),
+            s: self.number(2),
+            r: self.number(3),
+            punch: self.number(4),
+        }
+    }
+
+    // A value's numbers, by its kind.
+    #[tactic(auto, unfolding(crate::specs::Value::value_as, crate::specs::Numbers::val_number))]
+    pub fn value(&self, val: Val) -> Value
+        ensures { result ≡ value_as (val_number val) self.now }
+    {
+        match val {
+            Val::Const => Value::Const(self.number(0)),
+            Val::Slide => Value::Slide(dsl::Slide {
+                from: self.number(0),
+                to: self.number(1),
+                secs: self.number(2),
+                curve: dsl::Curve::from(self.option()),
+            }),
+            Val::Lfo => Value::Lfo(dsl::Lfo {
+                shape: dsl::Shape::from(self.option()),
+                rate: self.number(0),
+                depth: self.number(1),
+                center: self.number(2),
+            }),
+            Val::Arp => Value::Arp {
+                rate: self.number(0),
+                first: self.first(),
+            },
+            Val::EnvMod => Value::EnvMod(dsl::EnvMod {
+                env: self.adsr(),
+                from: self.number(5),
+                to: self.number(6),
+            }),
+            Val::Rand => Value::Rand(dsl::Rand {
+                from: self.number(0),
+                to: self.number(1),
+                rate: self.number(2),
+            }),
+        }
     }
 }

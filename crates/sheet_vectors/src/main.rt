@@ -2,11 +2,50 @@
 // lowest first), the answer that it must get, and its bytes. Prints how many got each answer, and the first difference.
 #![tactic(auto)]
 
-use console::read_full;
-use std::io;
-use std::io::{BufReader, Read, Write};
+use console::{next_bytes, read_full};
+use std::alloc::Global;
+use std::io::{BufRead, BufReader, Write};
+use std::{fmt, io};
 
-// A sheet that got another answer than it must, and its place.
+// No sheet has as many bytes.
+const LONGEST: usize = 65536;
+
+// A sheet, and the answer that it must get.
+#[derive(Drop)]
+struct Case {
+    sheet: Vec<u8>,
+    expected: u8,
+}
+
+// What comes next in the input. After a sheet that is cut short or too long it is not known where the next one starts.
+#[derive(Drop)]
+enum Next {
+    Case(Case),
+    Cut,
+    End,
+}
+
+fn next_case(input: &mut impl BufRead, alloc: Global) -> io::Result<Next> {
+    if input.fill_buf()?.is_empty() {
+        return Ok(Next::End);
+    }
+    let Some(head) = next_bytes::<_, 5>(input)? else {
+        return Ok(Next::Cut);
+    };
+    let [a, b, c, d, expected] = head;
+    let length = u32::from_le_bytes([a, b, c, d]) as usize;
+    if LONGEST < length {
+        return Ok(Next::Cut);
+    }
+    let mut sheet = vec![in alloc; 0u8; length]?;
+    if read_full(input, sheet.as_mut_slice())? < length {
+        return Ok(Next::Cut);
+    }
+    Ok(Next::Case(Case { sheet, expected }))
+}
+
+// A sheet that got another answer than it must, and its place. Answers are numbers throughout, as the file has them: one is only compared with another,
+// counted and printed.
 #[derive(Clone, Copy)]
 struct Difference {
     at: u64,
@@ -60,50 +99,42 @@ impl Run {
         });
     }
 
-    // Reads a sheet into buf, and compares its answer. Returns whether the input may go on.
-    fn step(&mut self, input: &mut impl Read, buf: &mut [u8]) -> io::Result<bool> {
-        let mut head = [0u8; 5];
-        let got = read_full(input, &mut head)?;
-        if got == 0 {
-            return Ok(false);
-        }
-        let length = u32::from_le_bytes([head[0], head[1], head[2], head[3]]) as usize;
-        let whole = got == 5
-            && length <= buf.len()
-            && read_full(input, &mut buf[..length])? == length;
-        if whole {
-            self.count(head[4], refusal::answer(checks::accepted(&buf[..length])));
-        } else {
-            self.cut_short();
-        }
-        Ok(whole)
-    }
-
     // The turns are more than any input has.
-    fn go(&mut self, input: &mut impl Read) -> io::Result<()> {
-        let mut buf = [0u8; 65536];
+    fn go(&mut self, input: &mut impl BufRead, alloc: Global) -> io::Result<()> {
         for _ in 0..u64::MAX {
-            if !self.step(input, &mut buf)? {
-                break;
+            match next_case(input, alloc)? {
+                Next::Case(case) => {
+                    self.count(
+                        case.expected,
+                        refusal::answer(checks::accepted(case.sheet.as_slice())),
+                    );
+                }
+                Next::Cut => {
+                    self.cut_short();
+                    return Ok(());
+                }
+                Next::End => return Ok(()),
             }
         }
         Ok(())
     }
+}
 
-    fn report(&self, output: &mut impl Write) -> io::Result<()> {
-        writeln!(output, "sheets {}", self.sheets)?;
+impl fmt::Display for Run {
+    fn fmt<W: fmt::Write>(&self, f: &mut fmt::Formatter<W>) -> fmt::Result {
+        writeln!(f, "sheets {}", self.sheets)?;
         for (answer, n) in self.counts.iter().enumerate() {
             if answer == 0 {
-                writeln!(output, "accepted {n}")?;
+                writeln!(f, "accepted {n}")?;
             } else {
-                writeln!(output, "refused {answer}: {n}")?;
+                writeln!(f, "refused {answer}: {n}")?;
             }
         }
-        writeln!(output, "differences {}", self.differences)?;
+        writeln!(f, "differences {}", self.differences)?;
         if let Some(first) = self.first {
-            writeln!(output, "the first at sheet {}", first.at)?;
-            writeln!(output, "it must get {}", first.expected)?;
-            writeln!(output, "and got {}", first.answered)?;
+            writeln!(f, "the first at sheet {}", first.at)?;
+            writeln!(f, "it must get {}", first.expected)?;
+            writeln!(f, "and got {}", first.answered)?;
         }
         Ok(())
     }
@@ -116,6 +147,6 @@ fn main(rt: HostRuntime) -> io::Result<()> {
         differences: 0,
         first: None,
     };
-    run.go(&mut BufReader::new(rt.alloc(), rt.stdin())?)?;
-    run.report(&mut rt.stdout())
+    run.go(&mut BufReader::new(rt.alloc(), rt.stdin())?, rt.alloc())?;
+    write!(rt.stdout(), "{run}")
 }

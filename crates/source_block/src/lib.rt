@@ -1,4 +1,5 @@
-// Impact and Env over a block: what the one-sample kernel gives, sample after sample.
+// Impact and Env over a block: what the one-sample kernel gives, sample after sample. As in value_block, a clause says that the
+// positions fit.
 #![tactic(auto)]
 
 ghost use Rattle.std.specs.Prelude.{◌≡◌, ◌+◌, ◌^◌, ◌≤◌, ◌<◌, length};

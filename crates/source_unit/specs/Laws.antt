@@ -12,6 +12,9 @@ use Rattle.control.specs.declared.Controls.{Controls}
 use Rattle.control.specs.Moves.{bent}
 use Rattle.source.specs.declared.Frequencies.{Frequencies}
 use Rattle.sheet.specs.Record.{length_of, record_at}
+use Rattle.sheet.specs.Numbers.{src_number}
+use Rattle.sheet.specs.declared.kinds.Src.{Src}
+use Rattle.sheet.specs.declared.kinds.Src.TheVariants as S
 use Rattle.unit.specs.Own.{Own, Ugen}
 use Rattle.unit.specs.Sources.{source_unit}
 use Rattle.unit.specs.Unit.{srf, kind_unit}
@@ -46,6 +49,19 @@ color-cells zero = refl
 color-cells (suc zero) = refl
 color-cells (suc (suc n)) = rw (ne_eqb (suc (suc n)) 0 (λ e. omega arith), ne_eqb (suc (suc n)) 1 (λ e. omega arith))
 
-pub source_is : {s : List ℕ} {i k nc nr : ℕ} → Lent s i k nc nr → (j : ℕ) → k ≡ j → ltb j 21 ≡ true → kind_unit s i ≡ source_unit (record_at s i) (srf s) (length_of s) j
+below : (src : Src) → ltb (src_number src) 21 ≡ true
+unfolding src_number
+below S.Sine = refl
+below S.Square = refl
+below S.Sawtooth = refl
+below S.Triangle = refl
+below S.Fm = refl
+below S.Super = refl
+below S.Impact = refl
+below S.Env = refl
+below S.Noise = refl
+below S.Dust = refl
+
+pub source-is : {s : List ℕ} {i nc nr : ℕ} (src : Src) → Lent s i (src_number src) nc nr → kind_unit s i ≡ source_unit (record_at s i) (srf s) (length_of s) (src_number src)
 unfolding kind_unit
-source_is l j e h = rw (sym l.kind_is ∙ e, h)
+source-is src l = rw (← l.kind_is, below src)

@@ -1,23 +1,29 @@
 // The sources over a block: the state is read from what the record owns, what is constant over the block is worked out once, and the state
-// is stored back.
+// is stored back. The block, the record, the values, the cells and the registers stay parameters of their own: they lie apart in the walk's
+// memory, so a struct of them would be made at each call only to be taken apart in the kernel. A state is loaded number by number, since an
+// array pattern of the cells would have to refuse the lengths that the contracts rule out.
 #![tactic(auto)]
 
-ghost use Rattle.std.specs.Prelude.{◌≡◌, ◌≢◌, List, [], ◌∷◌, ◌+◌, ◌*◌, ◌^◌, ◌≤◌, ◌<◌, length, Float};
+ghost use Rattle.std.specs.Prelude.{◌≡◌, List, [], ◌∷◌, ◌+◌, ◌*◌, ◌^◌, ◌≤◌, ◌<◌, length, Float};
 ghost use Rattle.dsl.specs.Options.{super_wave_of};
 ghost use Rattle.sheet.specs.Record.{option_of, number_of};
 ghost use Rattle.sheet.specs.Value.{adsr_in};
+ghost use Rattle.sheet.specs.Numbers.{src_number};
 ghost use Rattle.layout.specs.Needs.{voices_of};
 ghost use Rattle.value.specs.Modulators.{release_start};
 ghost use Rattle.source.specs.Oscillators.{Covers};
 ghost use Rattle.unpitched.specs.Others.{impact_width, impact_norm, dust_chance, dust_decay};
 ghost use Rattle.unit.specs.Sources.{sine_unit, square_unit, saw_unit, triangle_unit, fm_unit, super_unit, impact_unit, env_unit, white_unit, pink_unit, brown_unit, noise_unit, dust_unit};
 ghost use Rattle.unit.specs.Unit.{kind_unit};
+ghost use Rattle.unit.specs.Buffers.{values_of, buffers_of};
 ghost use Rattle.unit.specs.Block.{Ran, Lent, Pitched};
 ghost use Rattle.value_unit.specs.Lent.{RanStateless, RanAlone};
 ghost use Rattle.source_unit.specs.Laws.{RanPitched, color_cells};
 
 use dsl::{NoiseColor, SuperWave};
 use rng::Rng;
+use sheet::Record;
+use sheet::kinds::Src;
 use source::{Fm, Frequencies, Triangle};
 use unpitched::{Brown, Dust, Impact, Pink};
 
@@ -68,31 +74,31 @@ fn fm(out: &mut [f32], w: Frequencies, index: &[f32], ratio: f32, cells: &mut [f
     cells.copy_from_slice(&[r.cph, r.mph]);
 }
 
-fn super_voices(out: &mut [f32], w: Frequencies, r: &[u8], cells: &mut [f32])
-    requires { Covers (length out.old) w × (length cells.old ≡ 2 * voices_of r.now) × (40 ≤ length r.now) }
+fn super_voices(out: &mut [f32], w: Frequencies, r: &Record, cells: &mut [f32])
+    requires { Covers (length out.old) w × (length cells.old ≡ 2 * voices_of r.now) }
     ensures { RanPitched (super_unit (super_wave_of (option_of r.now)) (voices_of r.now) w.entry.srf) w.entry [] out.old cells.old out.new cells.new }
 {
-    let wave = SuperWave::from(sheet::option(r));
-    let n = layout::voices(sheet::bits(r, 0)) as usize;
+    let wave = SuperWave::from(r.option());
+    let n = layout::voices(r.bits(0)) as usize;
     super_block::super_block(out, w, wave, n, cells);
 }
 
 // ---- by the position alone
 
-fn impact(out: &mut [f32], r: &[u8], srf: f32, c: control::Controls)
-    requires { (40 ≤ length r.now) × (c.position + length out.old < 2 ^ 64) }
+fn impact(out: &mut [f32], r: &Record, srf: f32, c: control::Controls)
+    requires { (c.position + length out.old < 2 ^ 64) }
     ensures { RanStateless (impact_unit (impact_width (number_of r.now 0) srf) (impact_norm (number_of r.now 1) (impact_width (number_of r.now 0) srf))) c out.old out.new }
 {
-    let lobe = Impact::new(sheet::number(r, 0), sheet::number(r, 1), srf);
+    let lobe = Impact::new(r.number(0), r.number(1), srf);
     source_block::impact_block(out, lobe, c.position);
 }
 
 // n is the sheet's length.
-fn env(out: &mut [f32], r: &[u8], srf: f32, n: u64, c: control::Controls)
-    requires { (40 ≤ length r.now) × (c.position + length out.old < 2 ^ 64) }
+fn env(out: &mut [f32], r: &Record, srf: f32, n: u64, c: control::Controls)
+    requires { (c.position + length out.old < 2 ^ 64) }
     ensures { RanStateless (env_unit (adsr_in r.now) srf (release_start n srf (number_of r.now 3))) c out.old out.new }
 {
-    let env = sheet::adsr(r);
+    let env = r.adsr();
     source_block::env_block(
         out,
         env,
@@ -147,12 +153,12 @@ fn noise(out: &mut [f32], color: NoiseColor, cells: &mut [f32], regs: &mut [u64]
     }
 }
 
-fn dust(out: &mut [f32], r: &[u8], srf: f32, cells: &mut [f32], regs: &mut [u64])
-    requires { (40 ≤ length r.now) × (length cells.old ≡ 1) × (length regs.old ≡ 1) }
+fn dust(out: &mut [f32], r: &Record, srf: f32, cells: &mut [f32], regs: &mut [u64])
+    requires { (length cells.old ≡ 1) × (length regs.old ≡ 1) }
     ensures { RanAlone (dust_unit (dust_chance (number_of r.now 0) srf) (dust_decay (number_of r.now 1) srf)) out.old cells.old regs.old out.new cells.new regs.new }
 {
-    let chance = unpitched::dust_chance(sheet::number(r, 0), srf);
-    let decay = unpitched::dust_decay(sheet::number(r, 1), srf);
+    let chance = unpitched::dust_chance(r.number(0), srf);
+    let decay = unpitched::dust_decay(r.number(1), srf);
     let s = Dust {
         rng: Rng { state: regs[0] },
         y: cells[0],
@@ -162,68 +168,14 @@ fn dust(out: &mut [f32], r: &[u8], srf: f32, cells: &mut [f32], regs: &mut [u64]
     regs[0] = d.rng.state;
 }
 
-// ---- by kind, the byte of the sheet, as the caller has read it: those without a value, with one, with two
+// ---- by kind
 
-// 7 Impact, 8 Env, 9 Noise, 10 Dust.
-#[tactic(auto, using(crate::proofs::Lent::lent_in))]
-pub fn play0(
+// v and w are the buffers of its values, of which a kind reads as many as it has: the frequency, then the duty or the index.
+#[tactic(auto, using(unit::specs::Lent::lent_in))]
+pub fn play(
     sheet: &[u8],
     i: usize,
-    kind: u8,
-    c: control::Controls,
-    out: &mut [f32],
-    cells: &mut [f32],
-    regs: &mut [u64],
-)
-    requires { Lent sheet.now i kind (length cells.old) (length regs.old) × (7 ≤ kind) × (kind ≤ 10) × (c.position + length out.old < 2 ^ 64) }
-    ensures { Ran (kind_unit sheet.now i) c [] out.old cells.old regs.old out.new cells.new regs.new }
-{
-    let srf = value_unit::srf_of(sheet);
-    let r = &sheet[24 + 40 * i..];
-    match kind {
-        7 => impact(out, r, srf, c),
-        8 => env(out, r, srf, sheet::length(sheet), c),
-        9 => noise(out, NoiseColor::from(sheet::option(r)), cells, regs),
-        _ => dust(out, r, srf, cells, regs),
-    }
-}
-
-// 1 Sine, 3 Sawtooth, 4 Triangle, 6 Super; v is the frequency.
-#[tactic(auto, using(crate::proofs::Lent::lent_in))]
-pub fn play1(
-    sheet: &[u8],
-    i: usize,
-    kind: u8,
-    c: control::Controls,
-    out: &mut [f32],
-    v: &[f32],
-    pitch: &[f32],
-    cells: &mut [f32],
-    regs: &mut [u64],
-)
-    requires { Lent sheet.now i kind (length cells.old) (length regs.old) × (1 ≤ kind) × (kind ≤ 6) × (kind ≢ 2) × (kind ≢ 5) × (length out.old ≤ length v.now) × Pitched c pitch.now (length out.old) }
-    ensures { Ran (kind_unit sheet.now i) c (v.now ∷ []) out.old cells.old regs.old out.new cells.new regs.new }
-{
-    let srf = value_unit::srf_of(sheet);
-    let f = Frequencies {
-        values: v,
-        pitch,
-        srf,
-    };
-    match kind {
-        1 => sine(out, f, cells),
-        3 => saw(out, f, cells),
-        4 => triangle(out, f, cells),
-        _ => super_voices(out, f, &sheet[24 + 40 * i..], cells),
-    }
-}
-
-// 2 Square, 5 Fm; v is the frequency, w the duty or the index.
-#[tactic(auto, using(crate::proofs::Lent::lent_in))]
-pub fn play2(
-    sheet: &[u8],
-    i: usize,
-    kind: u8,
+    src: Src,
     c: control::Controls,
     out: &mut [f32],
     v: &[f32],
@@ -232,17 +184,29 @@ pub fn play2(
     cells: &mut [f32],
     regs: &mut [u64],
 )
-    requires { Lent sheet.now i kind (length cells.old) (length regs.old) × (2 ≤ kind) × (kind ≤ 5) × (kind ≢ 3) × (kind ≢ 4) × (length out.old ≤ length v.now) × (length out.old ≤ length w.now) × Pitched c pitch.now (length out.old) }
-    ensures { Ran (kind_unit sheet.now i) c (v.now ∷ w.now ∷ []) out.old cells.old regs.old out.new cells.new regs.new }
+    requires lent { Lent sheet.now i (src_number src) (length cells.old) (length regs.old) }
+    requires position { values_of (src_number src) ≡ 0 → c.position + length out.old < 2 ^ 64 }
+    requires first { 1 ≤ values_of (src_number src) → (length out.old ≤ length v.now) × Pitched c pitch.now (length out.old) }
+    requires second { 2 ≤ values_of (src_number src) → length out.old ≤ length w.now }
+    ensures { Ran (kind_unit sheet.now i) c (buffers_of (values_of (src_number src)) v.now w.now) out.old cells.old regs.old out.new cells.new regs.new }
 {
     let srf = value_unit::srf_of(sheet);
+    let r = Record::at(sheet, i);
     let f = Frequencies {
         values: v,
         pitch,
         srf,
     };
-    match kind {
-        2 => square(out, f, w, cells),
-        _ => fm(out, f, w, sheet::number(&sheet[24 + 40 * i..], 0), cells),
+    match src {
+        Src::Sine => sine(out, f, cells),
+        Src::Square => square(out, f, w, cells),
+        Src::Sawtooth => saw(out, f, cells),
+        Src::Triangle => triangle(out, f, cells),
+        Src::Fm => fm(out, f, w, r.number(0), cells),
+        Src::Super => super_voices(out, f, &r, cells),
+        Src::Impact => impact(out, &r, srf, c),
+        Src::Env => env(out, &r, srf, sheet::length(sheet), c),
+        Src::Noise => noise(out, NoiseColor::from(r.option()), cells, regs),
+        Src::Dust => dust(out, &r, srf, cells, regs),
     }
 }

@@ -1,50 +1,113 @@
 -- What the start values are by kind, how many there are, and the laws of the loop that writes Modal's.
-use Rattle.std.specs.Prelude.{◌≡◌, List, [], ◌++◌, false, ◌&&◌, ◌≢◌, ℕ, ◌+◌, ◌-◌, ◌*◌, ◌≤◌, ◌<◌, ltb, length, get_or, take, drop, Float}
-use Rattle.std.proofs.Common.{sym, ◌∙◌, append_assoc, append-nil, length-append, length-take, length-drop, take_at, take_all, length-take-le}
+use Rattle.std.specs.Prelude.{◌≡◌, refl, Bool, true, false, List, [], ◌∷◌, ◌++◌, ◌&&◌, ◌||◌, ◌≢◌, ℕ, ◌+◌, ◌-◌, ◌≤◌, ◌<◌, eqb, ltb, length, get_or, take, Float}
+use Rattle.std.proofs.Common.{sym, ◌∙◌, append_assoc, append-nil, length-append, take_at, take_all, length-take-le}
 use Rattle.std.proofs.Math.Path.{ap}
 use native.Mathlib.Omega.{arith}
-use borrow.Author.Tests.{ne_eqb, lt-ltb, le-ltb}
+use borrow.Author.Tests.{eqb-true, ne_eqb, lt-ltb}
 use Rattle.std.proofs.Math.ListN.{replicate}
 use borrow.Rule.Slice.PartMut.{mid_of, put_mid, mid_len, same_len_mid}
 use Rattle.float.specs.Single.{zero as zero_f}
 use Rattle.sheet.specs.Record.{rate_of, number_of, record_at, kind, next}
+use Rattle.sheet.specs.Numbers.{kind_number, src_number, biquad_number, proc_number, val_number}
+use Rattle.sheet.specs.declared.kinds.Src.{Src}
+use Rattle.sheet.specs.declared.kinds.Biquad.{Biquad}
+use Rattle.sheet.specs.declared.kinds.Biquad.TheVariants as B
+use Rattle.sheet.specs.declared.kinds.Proc.{Proc}
+use Rattle.sheet.specs.declared.kinds.Val.{Val}
+use Rattle.sheet.specs.declared.kinds.Kind.{Kind}
+use Rattle.sheet.specs.declared.kinds.Kind.TheVariants as K
+use Rattle.sheet.specs.Laws.{never}
 use Rattle.sheet.specs.Tree.{records, spine}
-use Rattle.layout.specs.Built.{role, built}
+use Rattle.layout.specs.Built.{role}
+use Rattle.layout.specs.declared.Role.TheVariants.{Built}
 use Rattle.layout.specs.Good.{Good, good}
 use Rattle.layout.specs.Owners.{records-none, records-some}
-use Rattle.layout.specs.Needs.{cells_by, registers_by}
+use Rattle.layout.specs.Needs.{need_of, cells_by, registers_by}
 use Rattle.layout.specs.Counts.{cells-built, registers-built}
 use Rattle.layout.specs.Tables.{Table, Passed}
 use Rattle.dsp.specs.Coefficients.{modal_of}
-use Rattle.unit.specs.Start.{filter_start, at_rest, mode_start, modal_start, start_cells, start_registers}
+use Rattle.unit.specs.Start.{filter_start, at_rest, mode_start, modal_start, start_cells, start_registers, path}
+use Rattle.rng.specs.Random.{seed_of}
+use Rattle.std.proofs.Math.Decide.{ℕ_discrete}
 
 -- ---- what lies from a record on is the record at least
-pub record-room : (s : List ℕ) (i : ℕ) → 24 + 40 * (i + 1) ≤ length s → 40 ≤ length (take (length s - (24 + 40 * i)) (drop (24 + 40 * i) s))
-record-room s i h = simp (length-take, length-drop) (omega arith)
-
 module _ (s : List ℕ) (i : ℕ) where
   -- ---- what they are
   pub filter-start : 21 < kind s i → kind s i < 29 → start_cells s i ≡ filter_start
   unfolding start_cells
   filter-start l h = let d : kind s i ≢ 6 = omega arith in rw (ne_eqb (kind s i) 6 d, lt-ltb 21 (kind s i) l, lt-ltb (kind s i) 29 h)
 
-  -- the others: zeros, as many as are owned
-  other-start : role s i ≡ built → kind s i ≢ 6 → ltb 21 (kind s i) && ltb (kind s i) 29 ≡ false → kind s i ≢ 31 → kind s i ≢ 32 → kind s i ≢ 35 → kind s i ≢ 46
-      → start_cells s i ≡ replicate (cells_by s i) zero_f
+-- ---- the number of a kind, by its case
+module _ {k : Kind} {n : ℕ} (e : kind_number k ≡ n) where
+  pub src-at : {x : Src} → k ≡ K.Src x → {y : Src} → x ≡ y → n ≡ src_number y
+  unfolding kind_number
+  src-at p q = sym e ∙ ap kind_number p ∙ ap src_number q
+
+  pub proc-at : {x : Proc} → k ≡ K.Proc x → {y : Proc} → x ≡ y → n ≡ proc_number y
+  unfolding kind_number
+  proc-at p q = sym e ∙ ap kind_number p ∙ ap proc_number q
+
+  pub val-at : {x : Val} → k ≡ K.Val x → {y : Val} → x ≡ y → n ≡ val_number y
+  unfolding kind_number
+  val-at p q = sym e ∙ ap kind_number p ∙ ap val_number q
+
+  pub filter-at : {x : Biquad} → k ≡ K.Biquad x → (21 < n) × (n < 29)
+  unfolding kind_number biquad_number
+  filter-at {x} p = let r = filter-in x in let q : n ≡ biquad_number x = sym e ∙ ap kind_number p in (omega (arith, r.0), omega (arith, r.1))
+    where
+      filter-in : (x : Biquad) → (21 < biquad_number x) × (biquad_number x < 29)
+      filter-in B.Lowpass = (omega arith, omega arith)
+      filter-in B.Highpass = (omega arith, omega arith)
+      filter-in B.Bandpass = (omega arith, omega arith)
+      filter-in B.Notch = (omega arith, omega arith)
+      filter-in B.Peak = (omega arith, omega arith)
+      filter-in B.Lowshelf = (omega arith, omega arith)
+      filter-in B.Highshelf = (omega arith, omega arith)
+
+-- ---- the kinds that start with other numbers than 0
+abbrev pub starting : ℕ → Bool
+starting k = eqb k 6 || (ltb 21 k && ltb k 29) || eqb k 31 || eqb k 32 || eqb k 35 || eqb k 46
+
+abbrev pub seeding : ℕ → Bool
+seeding k = eqb k 9 || eqb k 10 || eqb k 46
+
+module _ (s : List ℕ) (i : ℕ) {k : ℕ} (b : role s i ≡ Built) (e : k ≡ kind s i) where
+  pub zero-start : starting k ≡ false → start_cells s i ≡ replicate (cells_by s i) zero_f
   unfolding start_cells
-  other-start r z f a b c d =
-      rw (ne_eqb (kind s i) 6 z, f, ne_eqb (kind s i) 31 a, ne_eqb (kind s i) 32 b, ne_eqb (kind s i) 35 c, ne_eqb (kind s i) 46 d) (ap (λ n. replicate n zero_f) (cells-built s i r))
+  zero-start h =
+      let n = kind s i in
+      let p = six (eqb n 6) (ltb 21 n && ltb n 29) (eqb n 31) (eqb n 32) (eqb n 35) (eqb n 46) (ap starting (sym e) ∙ h) in
+      rw (p.0, p.1, p.2, p.3, p.4, p.5) (ap (λ n. replicate n zero_f) (cells-built s i b))
+    where
+      six : (a b c d e f : Bool) → a || b || c || d || e || f ≡ false → (a ≡ false) × (b ≡ false) × (c ≡ false) × (d ≡ false) × (e ≡ false) × (f ≡ false)
+      six false false false false false false q = (refl, refl, refl, refl, refl, refl)
+      six true b c d e f q = never q
+      six false true c d e f q = never q
+      six false false true d e f q = never q
+      six false false false true e f q = never q
+      six false false false false true f q = never q
+      six false false false false false true q = never q
 
-  pub low-start : role s i ≡ built → kind s i ≢ 6 → kind s i ≤ 21 → start_cells s i ≡ replicate (cells_by s i) zero_f
-  low-start r d h = other-start r d (rw (le-ltb 21 (kind s i) h)) (omega arith) (omega arith) (omega arith) (omega arith)
+  -- Noise and Dust
+  pub path-registers : eqb k 9 || eqb k 10 ≡ true → (start_registers s i ≡ seed_of (path s i) ∷ []) × (registers_by s i ≡ 1)
+  unfolding start_registers registers_by need_of
+  path-registers h = elim (ℕ_discrete (kind s i) 9) [
+    | yes z ↦ (rw z, rw z)
+    | no d ↦ let z = eqb-true (kind s i) 10 (rw (ne_eqb (kind s i) 9 d) at (ap (λ k. eqb k 9 || eqb k 10) (sym e) ∙ h)) in (rw z, rw z)
+  ]
 
-  pub high-start : role s i ≡ built → 29 ≤ kind s i → kind s i ≢ 31 → kind s i ≢ 32 → kind s i ≢ 35 → kind s i ≢ 46 → start_cells s i ≡ replicate (cells_by s i) zero_f
-  high-start r h = let l : 21 < kind s i = omega arith in other-start r (omega arith) (rw (lt-ltb 21 (kind s i) l, le-ltb (kind s i) 29 h))
-
-  -- ---- registers
-  pub other-registers : role s i ≡ built → kind s i ≢ 9 → kind s i ≢ 10 → kind s i ≢ 46 → start_registers s i ≡ replicate (registers_by s i) 0
+  pub zero-registers : seeding k ≡ false → start_registers s i ≡ replicate (registers_by s i) 0
   unfolding start_registers
-  other-registers r a b c = rw (ne_eqb (kind s i) 9 a, ne_eqb (kind s i) 10 b, ne_eqb (kind s i) 46 c) (ap (λ n. replicate n 0) (registers-built s i r))
+  zero-registers h =
+      let n = kind s i in
+      let p = three (eqb n 9) (eqb n 10) (eqb n 46) (ap seeding (sym e) ∙ h) in
+      rw (p.0, p.1, p.2) (ap (λ n. replicate n 0) (registers-built s i b))
+    where
+      three : (a b c : Bool) → a || b || c ≡ false → (a ≡ false) × (b ≡ false) × (c ≡ false)
+      three false false false q = (refl, refl, refl)
+      three true b c q = never q
+      three false true c q = never q
+      three false false true q = never q
 
 -- ---- Modal: along the chain, what is written and what the rest of the chain starts with are the whole
 abbrev pub chain_start : List ℕ → ℕ → List Float

@@ -1,4 +1,6 @@
-// The start of a voice: each record's start values into the part that it owns.
+// The start of a voice: each record's start values into the part that it owns. The loop over the cells and the one over the registers stay two:
+// one for both would take the ends of a record's part and its start values as closures, and their contracts would be longer than a loop. A record's index comes beside its row, which does not hold it: what plays knows it before it
+// reads the row.
 ghost use Rattle.std.specs.Prelude.{◌≡◌, ◌++◌, ◌≤◌, ◌<◌, length, drop};
 ghost use Rattle.sheet.specs.Record.{count_of, first};
 ghost use Rattle.layout.specs.Needs.{cells_from, registers_from};
@@ -15,7 +17,7 @@ fn record_cells(plan: &Plan<'_>, firsts: &[usize], row: Row, i: usize, own: &mut
     ensures { own.new ≡ brought_cells plan.now.sheet.now i }
 {
     if row.built {
-        start::cells(plan.sheet, plan.count, firsts, plan.nexts, i, row.kind, own);
+        start::cells(plan, firsts, i, row.kind, own);
     }
 }
 
@@ -28,6 +30,7 @@ fn record_registers(plan: &Plan<'_>, row: Row, key: u64, i: usize, own: &mut [u6
     }
 }
 
+#[tactic(auto, unfolding(sheet::specs::Checks::sum, machine::specs::Build::joined))]
 pub fn cells(plan: &Plan<'_>, firsts: &[usize], cells: &mut [f32])
     requires { Table (first plan.now.sheet.now) (count_of plan.now.sheet.now) firsts.now × (cells_from plan.now.sheet.now (count_of plan.now.sheet.now) ≤ length cells.old) }
     ensures { cells.new ≡ started_cells plan.now.sheet.now (count_of plan.now.sheet.now) ++ drop (cells_from plan.now.sheet.now (count_of plan.now.sheet.now)) cells.old }
@@ -40,6 +43,7 @@ pub fn cells(plan: &Plan<'_>, firsts: &[usize], cells: &mut [f32])
     }
 }
 
+#[tactic(auto, unfolding(sheet::specs::Checks::sum, machine::specs::Build::joined))]
 pub fn registers(plan: &Plan<'_>, paths: &[u64], regs: &mut [u64])
     requires { Table (path plan.now.sheet.now) (count_of plan.now.sheet.now) paths.now × (registers_from plan.now.sheet.now (count_of plan.now.sheet.now) ≤ length regs.old) }
     ensures { regs.new ≡ started_registers plan.now.sheet.now (count_of plan.now.sheet.now) ++ drop (registers_from plan.now.sheet.now (count_of plan.now.sheet.now)) regs.old }

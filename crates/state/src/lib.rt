@@ -6,6 +6,7 @@ mod begin;
 ghost use Rattle.std.specs.Prelude.{◌≡◌, true, cond, ◌&&◌, ◌++◌, ◌+◌, ◌≤◌, length, drop, set, replicate};
 ghost use Rattle.std.specs.Float.{nan};
 ghost use Rattle.sheet.specs.Record.{count_of, first};
+ghost use Rattle.sheet.specs.Numbers.{kind_number};
 ghost use Rattle.layout.specs.Needs.{cells_from, registers_from};
 ghost use Rattle.layout.specs.Tables.{Table};
 ghost use Rattle.unit.specs.Own.{silence};
@@ -14,30 +15,24 @@ ghost use Rattle.machine.specs.Machine.{is_filter, scaled};
 ghost use Rattle.machine.specs.Build.{started_cells, started_registers};
 
 use plan::{Plan, Row};
-
-// The filters are the kinds 22 to 28.
-const LAST_FILTER: u8 = 28;
+use sheet::kinds::Kind;
 
 // Where the record is a built filter, it gets the scale x, and NaN for its last frequency, so that the next sample works out the coefficients.
 fn scale(row: Row, x: f32, cells: &mut [f32])
-    requires { row.built ≡ true → 22 ≤ row.kind → row.kind ≤ 28 → row.cells + 2 ≤ length cells.old }
-    ensures { cells.new ≡ cond (row.built && is_filter row.kind) (set (set cells.old row.cells x) (row.cells + 1) nan) cells.old }
+    requires { row.built ≡ true → is_filter (kind_number row.kind) ≡ true → row.cells + 2 ≤ length cells.old }
+    ensures { cells.new ≡ cond (row.built && is_filter (kind_number row.kind)) (set (set cells.old row.cells x) (row.cells + 1) nan) cells.old }
 {
     if row.built {
-        let k = row.kind;
-        if k < 22 {
-            return;
+        if let Kind::Biquad(_) = row.kind {
+            let at = row.cells;
+            cells[at] = x;
+            cells[at + 1] = float::from_bits(0x7fc0_0000);
         }
-        if k > LAST_FILTER {
-            return;
-        }
-        let at = row.cells;
-        cells[at] = x;
-        cells[at + 1] = float::from_bits(0x7fc0_0000);
     }
 }
 
 // The cutoff move: every built filter.
+#[tactic(auto, unfolding(machine::specs::Machine::scaled))]
 pub fn set_cutoff(plan: &Plan<'_>, x: f32, cells: &mut [f32])
     requires { cells_from plan.now.sheet.now (count_of plan.now.sheet.now) ≤ length cells.old }
     ensures { cells.new ≡ scaled plan.now.sheet.now x (count_of plan.now.sheet.now) cells.old }
@@ -48,6 +43,7 @@ pub fn set_cutoff(plan: &Plan<'_>, x: f32, cells: &mut [f32])
 }
 
 // Every record's start values, in all the cells and registers that the sheet needs. The plan has no firsts: what plays doesn't read them.
+// The memory is two slices, as the C interface lends it.
 pub fn start_all(
     plan: &Plan<'_>,
     firsts: &[usize],
@@ -62,7 +58,7 @@ pub fn start_all(
     begin::registers(plan, paths, regs);
 }
 
-// The first n are silence.
+// The first n are silence. It takes all of the scratch, since its callers' contracts speak of all.
 pub fn clear(scr: &mut [f32], n: usize)
     requires { n ≤ length scr.old }
     ensures { scr.new ≡ replicate n silence ++ drop n scr.old }

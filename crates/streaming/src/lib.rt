@@ -47,7 +47,8 @@ fn chunk(n: usize) -> usize
     n.min(256)
 }
 
-// As many samples as out has; v, w and pitch are buffers that hold a block of them.
+// As many samples as out has; v, w and pitch are buffers that hold a block of them. That a part ensures what the whole does is the point: it is a
+// way to the same end.
 pub fn run(
     plan: &Plan<'_>,
     first: control::Controls,

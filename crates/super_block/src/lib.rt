@@ -1,4 +1,6 @@
-// Super over a block: the voices stay in the record's own cells.
+// Super over a block: the voices stay in the record's own cells. n is a parameter beside them, as in the definition: the sheet says
+// it, and half of the cells' number would say it no plainer.
+// `after` does not say that the cells stay as many, so it is said beside it.
 #![tactic(auto)]
 
 ghost use Rattle.std.specs.Prelude.{◌≡◌, ◌*◌, ◌≤◌, length};

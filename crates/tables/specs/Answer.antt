@@ -6,7 +6,7 @@ use Rattle.sheet.specs.Checks.{check_of}
 use Rattle.layout.specs.Needs.{cells_from, registers_from, scratch_from}
 use Rattle.offsets.specs.declared.Needs.{Needs}
 use Rattle.refusal.specs.declared.Refusal.{Refusal}
-use Rattle.refusal.specs.Refusal.{number_of, number-some}
+use Rattle.refusal.specs.Refusal.{number_of}
 use Rattle.tables.specs.declared.Needed.{Needed}
 
 abbrev pub refused : ℕ → Needed

@@ -7,19 +7,23 @@ ghost use Rattle.refusal.specs.Refusal.{answer_of};
 ghost use Rattle.sheet.specs.Links.{Rows};
 ghost use Rattle.sheet.specs.Checks.{check_of};
 ghost use Rattle.tables.specs.Answer.{needed_by, needed_of};
-ghost use Rattle.tables.specs.Tables.{zeroed, Made};
+ghost use Rattle.tables.specs.Tables.{blank, Made};
 
+use layout::{Links, Role};
 use offsets::Needs;
+use plan::Plan;
 use refusal::Refusal;
+use sheet::kinds::Kind;
 
 // The tables of a sheet of at most N records, lent for a call. M is N + 1: the places of memory end with a last one past all records.
+// A const argument can't be computed, so M stands beside N, and who lends them asks that it is more.
 #[derive(Drop)]
 pub struct Tables<const N: usize, const M: usize> {
-    pub kinds: [u8; N],
+    pub kinds: [Kind; N],
     pub firsts: [usize; N],
     pub nexts: [usize; N],
-    pub lasts: [u8; N],
-    pub acts: [u8; N],
+    pub lasts: [bool; N],
+    pub acts: [Role; N],
     pub begins: [usize; N],
     pub afters: [usize; N],
     pub places: [usize; M],
@@ -29,20 +33,52 @@ pub struct Tables<const N: usize, const M: usize> {
 
 impl<const N: usize, const M: usize> Tables<N, M> {
     pub fn new() -> Self
-        ensures { result ≡ zeroed }
+        ensures { result ≡ blank }
     {
         Tables {
-            kinds: [0; N],
+            kinds: [Kind::Step; N],
             firsts: [0; N],
             nexts: [0; N],
-            lasts: [0; N],
-            acts: [0; N],
+            lasts: [false; N],
+            acts: [Role::Out; N],
             begins: [0; N],
             afters: [0; N],
             places: [0; M],
             words: [0; M],
             blocks: [0; M],
         }
+    }
+
+    // The sheet with the tables that its checks left here.
+    pub fn links<'a>(&'a self, sheet: &'a [u8], count: usize) -> Links<'a>
+        requires { Made sheet.now count self.now }
+        ensures { (result.sheet.now ≡ sheet.now) × (result.count ≡ count) }
+    {
+        Links {
+            sheet,
+            count,
+            kinds: &self.kinds,
+            firsts: &self.firsts,
+            nexts: &self.nexts,
+        }
+    }
+
+    pub fn plan<'a>(&'a self, sheet: &'a [u8], count: usize) -> Plan<'a>
+        requires { Made sheet.now count self.now }
+        ensures { result.sheet.now ≡ sheet.now }
+    {
+        Plan::new(
+            sheet,
+            count,
+            &self.kinds,
+            &self.nexts,
+            &self.acts,
+            &self.begins,
+            &self.afters,
+            &self.places,
+            &self.words,
+            &self.blocks,
+        )
     }
 }
 
@@ -96,13 +132,16 @@ pub fn measure<const N: usize, const M: usize>(
 {
     checks::check(sheet, &mut t.kinds, &mut t.firsts, &mut t.nexts)?;
     let count = sheet::count(sheet);
-    // The passes of the plan are lent the tables that are set after it.
-    roles::plan(
+    let links = Links {
         sheet,
         count,
-        &t.kinds,
-        &t.firsts,
-        &t.nexts,
+        kinds: &t.kinds,
+        firsts: &t.firsts,
+        nexts: &t.nexts,
+    };
+    // The passes of the plan are lent the tables that are set after it.
+    roles::plan(
+        &links,
         &mut t.places,
         &mut t.lasts,
         &mut t.words,
@@ -110,16 +149,6 @@ pub fn measure<const N: usize, const M: usize>(
         &mut t.begins,
         &mut t.afters,
     );
-    let needs = offsets::offsets(
-        sheet,
-        count,
-        &t.kinds,
-        &t.firsts,
-        &t.nexts,
-        &t.acts,
-        &mut t.places,
-        &mut t.words,
-        &mut t.blocks,
-    );
+    let needs = offsets::offsets(&links, &t.acts, &mut t.places, &mut t.words, &mut t.blocks);
     Ok(Measured { needs, count })
 }

@@ -30,6 +30,7 @@ const S5: f64 = -2.50507602534068634195e-08;
 const S6: f64 = 1.58969099521155010221e-10;
 
 // fdlibm's sine on [-pi/4, pi/4]: x + x^3 S(x^2).
+#[tactic(auto, unfolding(crate::specs::Trig::sin_poly, double::specs::Double::horner))]
 pub fn sin_poly(x: f64) -> f64
     ensures { result ≡ sin_poly x }
 {
@@ -50,6 +51,7 @@ const C5: f64 = 2.08757232129817482790e-09;
 const C6: f64 = -1.13596475577881948265e-11;
 
 // fdlibm's cosine on [-pi/4, pi/4]: 1 - x^2 / 2 + x^4 C(x^2).
+#[tactic(auto, unfolding(crate::specs::Trig::cos_poly, double::specs::Double::horner))]
 pub fn cos_poly(x: f64) -> f64
     ensures { result ≡ cos_poly x }
 {
@@ -77,10 +79,10 @@ pub fn reduce_2pi(x: f64) -> f64
 fn quadrant(q: i64) -> u64
     ensures { result ≡ quadrant_of q }
 {
-    (q & 3) as u64
+    q.cast_unsigned() % 4
 }
 
-// The sine of a and k quarter turns.
+// The sine of a and k quarter turns. Their number is counted and no kind: an enum of four quadrants would be made by this very match.
 fn turn(k: u64, a: f64) -> f64
     ensures { result ≡ turned k a }
 {

@@ -37,11 +37,12 @@ use Rattle.control.specs.declared.Controls.{Controls}
 use Rattle.sheet.specs.Record.{count_of, rate_of, length_of, option_of, number_of, record_at, kind}
 use Rattle.sheet.specs.Kinds.{row_of, lookup}
 use Rattle.sheet.specs.declared.Value.{Value}
-use Rattle.sheet.specs.Value.{value_of}
+use Rattle.sheet.specs.Value.{value_as, value_of}
 use Rattle.sheet.specs.Checks.{all, check_of}
 use Rattle.sheet.specs.Laws.{both, all-at, all_of}
 use Rattle.sheet.specs.Accepted.{kind-past}
-use Rattle.layout.specs.Built.{role, is_built, built}
+use Rattle.layout.specs.Built.{role, is_built}
+use Rattle.layout.specs.declared.Role.TheVariants.{Built}
 use Rattle.layout.specs.Good.{good}
 use Rattle.layout.specs.Needs.{need_of, noise_cells, chain_length, cells_by, registers_by, cells, registers}
 use Rattle.layout.proofs.Contents.{option-in}
@@ -200,7 +201,7 @@ module _ (s : List ℕ) (i : ℕ) where
       last k l g n29 n30 n31 n32 n33 n34 = omega arith
 
   value_keeps : Sized (value_unit (value_of (record_at s i)) (steps_of s i) (srf s) (length_of s))
-  unfolding need_of value_of value_unit rand_unit
+  unfolding need_of value_as value_unit rand_unit
   value_keeps =
       let k = kind s i in
       at-kind Held k 42 (λ _. still _)
@@ -335,7 +336,7 @@ module _ (s : List ℕ) (i : ℕ) where
   kind-chorus e = rw e
 
   kind-rand : kind s i ≡ 46 → kind_unit s i ≡ rand_unit (rand_increment (number_of r 2) (srf s)) (number_of r 0) (number_of r 1)
-  unfolding kind_unit value_unit value_of
+  unfolding kind_unit value_unit value_as
   kind-rand e = rw e
 
   kind_ok : check_of s ≡ 0 → (t : Controls) (vs : List Float) (x : Float) (p : Own) → Checked s i p → Checked s i (kind_unit s i t vs x p).1
@@ -358,7 +359,7 @@ unfolding modal_start
 mode-cells s [] = refl
 mode-cells s (j ∷ js) = omega (arith, mode-cells s js)
 
-pub start-cells : (s : List ℕ) (i : ℕ) → role s i ≡ built → length (start_cells s i) ≡ cells s i
+pub start-cells : (s : List ℕ) (i : ℕ) → role s i ≡ Built → length (start_cells s i) ≡ cells s i
 unfolding start_cells need_of
 start-cells s i b =
     let k = kind s i in
@@ -377,7 +378,7 @@ start-cells s i b =
     voices : {a b n : ℕ} → a ≡ n → b ≡ n → a + b ≡ 2 * n
     voices e f = omega arith
 
-pub start-registers : (s : List ℕ) (i : ℕ) → role s i ≡ built → length (start_registers s i) ≡ registers s i
+pub start-registers : (s : List ℕ) (i : ℕ) → role s i ≡ Built → length (start_registers s i) ≡ registers s i
 unfolding start_registers need_of
 start-registers s i b =
     let k = kind s i in
@@ -410,7 +411,7 @@ start-phase : le zero_f zero_f && lt zero_f one ≡ true
 unfolding of_bits le lt eq
 start-phase = refl
 
-module _ (s : List ℕ) (i : ℕ) (b : role s i ≡ built) where
+module _ (s : List ℕ) (i : ℕ) (b : role s i ≡ Built) where
   abbrev begun : Own
   begun = (start_cells s i, start_registers s i)
 

@@ -6,6 +6,8 @@ pub mod Unit
 pub mod Voice
 pub mod State
 pub mod Start
+pub mod Buffers
 pub mod Block
+pub mod Lent
 pub mod Laws
 pub mod Sound

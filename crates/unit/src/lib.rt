@@ -2,33 +2,36 @@
 #![tactic(auto)]
 
 ghost use Rattle.std.specs.Prelude.{◌≡◌, ◌≤◌, length};
+ghost use Rattle.sheet.specs.Numbers.{biquad_number};
 ghost use Rattle.unit.specs.Processors.{filter_kind_of, filter_q};
 
-// The filter of a record by its kind, 22 to 28, with the gain that it has.
-#[tactic(auto, unfolding(crate::specs::Processors::filter_kind_of))]
-pub fn filter_kind(kind: u8, r: &[u8]) -> biquad::FilterKind
-    requires { 40 ≤ length r.now }
-    ensures { result ≡ filter_kind_of kind r.now }
+use biquad::FilterKind;
+use sheet::Record;
+use sheet::kinds::Biquad;
+
+// The filter of a record by its kind, with the gain that it has: a match and no `From`, since it is made of two things.
+#[tactic(auto, unfolding(crate::specs::Processors::filter_kind_of, sheet::specs::Numbers::biquad_number))]
+pub fn filter_kind(kind: Biquad, r: &Record) -> FilterKind
+    ensures { result ≡ filter_kind_of (biquad_number kind) r.now }
 {
     match kind {
-        22 => biquad::FilterKind::Low,
-        23 => biquad::FilterKind::High,
-        24 => biquad::FilterKind::Band,
-        25 => biquad::FilterKind::Notch,
-        26 => biquad::FilterKind::Peak(sheet::number(r, 1)),
-        27 => biquad::FilterKind::LowShelf(sheet::number(r, 0)),
-        _ => biquad::FilterKind::HighShelf(sheet::number(r, 0)),
+        Biquad::Lowpass => FilterKind::Low,
+        Biquad::Highpass => FilterKind::High,
+        Biquad::Bandpass => FilterKind::Band,
+        Biquad::Notch => FilterKind::Notch,
+        Biquad::Peak => FilterKind::Peak(r.number(1)),
+        Biquad::Lowshelf => FilterKind::LowShelf(r.number(0)),
+        Biquad::Highshelf => FilterKind::HighShelf(r.number(0)),
     }
 }
 
 // A shelf's q is fixed.
-#[tactic(auto, unfolding(crate::specs::Processors::filter_q))]
-pub fn filter_q(kind: u8, r: &[u8]) -> f32
-    requires { 40 ≤ length r.now }
-    ensures { result ≡ filter_q kind r.now }
+#[tactic(auto, unfolding(crate::specs::Processors::filter_q, sheet::specs::Numbers::biquad_number))]
+pub fn filter_q(kind: Biquad, r: &Record) -> f32
+    ensures { result ≡ filter_q (biquad_number kind) r.now }
 {
-    if kind < 27 {
-        return sheet::number(r, 0);
+    match kind {
+        Biquad::Lowshelf | Biquad::Highshelf => 0.707,
+        _ => r.number(0),
     }
-    0.707
 }

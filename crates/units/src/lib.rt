@@ -1,31 +1,23 @@
-// A node's own unit over a block, by its kind.
+// A node's own unit over a block, by its kind. The block, the buffers, the pitch, the cells and the registers stay slices of their own: behind
+// a `&mut` to a struct a slice may be replaced, so the contract would have to say besides that each is the same and as long as before.
 #![tactic(auto)]
 
 ghost use Rattle.std.specs.Prelude.{◌≡◌, true, ◌+◌, ◌^◌, ◌≤◌, ◌<◌, length};
+ghost use Rattle.sheet.specs.Numbers.{kind_number};
 ghost use Rattle.unit.specs.Unit.{kind_unit};
 ghost use Rattle.unit.specs.State.{own_ok};
+ghost use Rattle.unit.specs.Buffers.{values_of, buffers_of};
 ghost use Rattle.unit.specs.Block.{Ran, Lent, Pitched};
-ghost use Rattle.units.specs.Values.{values_of, buffers_of, has_unit};
+ghost use Rattle.units.specs.Values.{has_unit};
 
-// How many values a kind has.
-pub fn values_of(kind: u8) -> u8
-    ensures { result ≡ values_of kind }
-{
-    if (kind == 2) | (kind == 5) {
-        return 2;
-    }
-    if ((1 <= kind) & (kind <= 6)) | ((21 <= kind) & (kind <= 28)) | (kind == 32) {
-        return 1;
-    }
-    0
-}
+use sheet::kinds::Kind;
 
 // v and w are the buffers of the values, of which a kind reads as many as it has. Of the others the first is a buffer for what
-// the processors work out in passes.
+// the processors work out in passes. The contract rules out the kinds of the last arm, which have no unit.
 pub fn play(
     sheet: &[u8],
     i: usize,
-    kind: u8,
+    kind: Kind,
     c: control::Controls,
     out: &mut [f32],
     v: &mut [f32],
@@ -34,25 +26,13 @@ pub fn play(
     cells: &mut [f32],
     regs: &mut [u64],
 )
-    requires { Lent sheet.now i kind (length cells.old) (length regs.old) × (has_unit kind ≡ true) × (own_ok sheet.now i (cells.old, regs.old) ≡ true) × (length out.old ≤ length v.old) × (length out.old ≤ length w.old) × Pitched c pitch.now (length out.old) × (c.position + length out.old < 2 ^ 64) }
-    ensures { Ran (kind_unit sheet.now i) c (buffers_of (values_of kind) v.old w.old) out.old cells.old regs.old out.new cells.new regs.new }
+    requires { Lent sheet.now i (kind_number kind) (length cells.old) (length regs.old) × (has_unit (kind_number kind) ≡ true) × (own_ok sheet.now i (cells.old, regs.old) ≡ true) × (length out.old ≤ length v.old) × (length out.old ≤ length w.old) × Pitched c pitch.now (length out.old) × (c.position + length out.old < 2 ^ 64) }
+    ensures { Ran (kind_unit sheet.now i) c (buffers_of (values_of (kind_number kind)) v.old w.old) out.old cells.old regs.old out.new cells.new regs.new }
 {
-    let m = values_of(kind);
-    if 21 <= kind {
-        if m == 0 {
-            proc_unit::play0(sheet, i, kind, c, out, v, cells, regs);
-            return;
-        }
-        proc_unit::play1(sheet, i, kind, c, out, v, w, cells, regs);
-        return;
+    match kind {
+        Kind::Src(src) => source_unit::play(sheet, i, src, c, out, v, w, pitch, cells, regs),
+        Kind::Biquad(filter) => proc_unit::play_filter(sheet, i, filter, out, v, cells),
+        Kind::Proc(proc) => proc_unit::play(sheet, i, proc, c, out, v, w, cells, regs),
+        Kind::Fold(_) | Kind::Chain | Kind::Val(_) | Kind::Mode | Kind::Step => {}
     }
-    if m == 0 {
-        source_unit::play0(sheet, i, kind, c, out, cells, regs);
-        return;
-    }
-    if m == 1 {
-        source_unit::play1(sheet, i, kind, c, out, v, pitch, cells, regs);
-        return;
-    }
-    source_unit::play2(sheet, i, kind, c, out, v, w, pitch, cells, regs);
 }

@@ -1,11 +1,7 @@
 // The sources for one sample that have no pitch: Impact, Env, the noises, Dust.
 #![tactic(auto)]
 
-ghost use Rattle.std.specs.Prelude.{◌≡◌, cond};
-ghost use Rattle.std.specs.Float.Ieee as Ieee;
-ghost use Rattle.std.specs.Float.Ieee.{neg};
-ghost use Rattle.float.specs.Order.{clamp_of};
-ghost use Rattle.float.specs.Single.{one};
+ghost use Rattle.std.specs.Prelude.{◌≡◌};
 ghost use Rattle.unpitched.specs.Others.{impact_width, impact_norm, impact_by, impact_of, env_of, white_of, pink_of, brown_of, dust_chance, dust_decay, dust_of};
 
 use rng::Rng;
@@ -78,7 +74,8 @@ pub fn white(word: u64) -> (f32, u64)
     (rng.bi(), rng.state)
 }
 
-// White noise through Paul Kellet's filter.
+// White noise through Paul Kellet's filter. Each noise has its generator, and by its own name what its recurrence reads: one type of a
+// generator and any state would lose these names.
 #[derive(Clone, Copy)]
 pub struct Pink {
     pub rng: Rng,
@@ -104,20 +101,6 @@ impl Pink {
     }
 }
 
-fn least(x: f32) -> f32
-    ensures { result ≡ cond (Ieee.lt x (neg one)) (neg one) x }
-{
-    if x < -1.0 { -1.0 } else { x }
-}
-
-// Into [-1, 1], one bound after the other: a maximum and a minimum, each an instruction.
-fn bounded(x: f32) -> f32
-    ensures { result ≡ clamp_of x (neg one) one }
-{
-    let y = least(x);
-    if y > 1.0 { 1.0 } else { y }
-}
-
 // White noise integrated with a leak; last is the integral.
 #[derive(Clone, Copy)]
 pub struct Brown {
@@ -131,7 +114,7 @@ impl Brown {
         ensures { (result, self.new) ≡ brown_of self.old }
     {
         self.last = (self.last + 0.02 * self.rng.bi()) * 0.998;
-        bounded(self.last * 8.0)
+        float::clamp(self.last * 8.0, -1.0, 1.0)
     }
 }
 

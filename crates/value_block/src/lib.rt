@@ -1,8 +1,8 @@
-// The values over a block, each into a buffer: what the one-sample kernel gives, sample after sample from the position t.
+// The values over a block, each into a buffer: what the one-sample kernel gives, sample after sample from the position t. That the
+// positions fit stays a clause of each: it speaks of t and of the buffer's length, which no struct holds together.
 #![tactic(auto)]
 
 ghost use Rattle.std.specs.Prelude.{◌≡◌, ◌+◌, ◌^◌, ◌≤◌, ◌<◌, length};
-ghost use Rattle.dsl.specs.declared.Shape.TheVariants.{Sine};
 ghost use Rattle.block.specs.Iterate.{given, after};
 ghost use Rattle.value_block.specs.Steps.{slide_step, lfo_step, lfo_argument_step, lfo_level_step, env_mod_step, rand_step};
 
@@ -30,27 +30,21 @@ pub fn slide_block(out: &mut [f32], v: dsl::Slide, srf: f32, t: u64)
     }
 }
 
-// ---- Lfo. A sine goes in passes: its arguments, their sines, which are independent of each other, and these about the center.
-
-fn lfo_sine(out: &mut [f32], v: dsl::Lfo, srf: f32, t: u64)
-    requires { (v.shape ≡ Sine) × (t + length out.old < 2 ^ 64) }
-    ensures { out.new ≡ given (lfo_step v srf t) tt (length out.old) }
-{
-    block::run_block(
-        out,
-        (),
-        |k, s, _| (TAU * value::lfo_phase(v.rate, srf, t + (k as u64)), s),
-    );
-    dsp::sin_block(out);
-    block::run_block(out, (), |k, s, y| (v.center + v.depth * y, s));
-}
-
+// A sine goes in passes: its arguments, their sines, which are independent of each other, and these about the center.
 pub fn lfo_block(out: &mut [f32], v: dsl::Lfo, srf: f32, t: u64)
     requires { t + length out.old < 2 ^ 64 }
     ensures { out.new ≡ given (lfo_step v srf t) tt (length out.old) }
 {
     match v.shape {
-        dsl::Shape::Sine => lfo_sine(out, v, srf, t),
+        dsl::Shape::Sine => {
+            block::run_block(
+                out,
+                (),
+                |k, s, _| (TAU * value::lfo_phase(v.rate, srf, t + (k as u64)), s),
+            );
+            dsp::sin_block(out);
+            block::run_block(out, (), |_, s, y| (v.center + v.depth * y, s));
+        }
         _ => block::run_block(out, (), |k, s, _| (value::lfo(v, srf, t + (k as u64)), s)),
     }
 }
@@ -67,7 +61,8 @@ pub fn env_mod_block(out: &mut [f32], v: dsl::EnvMod, srf: f32, rel_start: f32, 
     );
 }
 
-// One turn of the walk per sample; inc is `rand_increment` of the sheet, worked out once.
+// One turn of the walk per sample; inc is `rand_increment` of the sheet, worked out once a block; from and to are the record's. A struct
+// of the three would be made for one call.
 pub fn rand_block(
     out: &mut [f32],
     inc: f32,

@@ -1,22 +1,24 @@
 -- The values over a block: an Arp's steps along its chain, and the case that a record's kind gives.
-use Rattle.std.specs.Prelude.{◌≡◌, refl, ◌≢◌, Bool, true, false, cond, eqb, ℕ, zero, suc, ◌+◌, ◌-◌, ◌≤◌, ◌<◌, length, get_or, set, Float}
+use Rattle.std.specs.Prelude.{◌≡◌, refl, ◌≢◌, Bool, true, false, cond, eqb, ltb, ℕ, zero, suc, ◌+◌, ◌-◌, ◌<◌, length, get_or, Float}
 use Rattle.std.proofs.Common.{sym, ◌∙◌, mod-lt, arith}
 use Rattle.std.proofs.Math.Path.{ap}
 use mathlib.Core.List.{List, [], ◌∷◌, map}
-use Rattle.std.proofs.Math.Decide.{ℕ_discrete}
-use borrow.Author.Tests.{eq-eqb, eqb-true, ne_eqb, le-ltb}
+use borrow.Author.Tests.{eq-eqb, eqb-true, ne_eqb}
 use Rattle.std.proofs.lemmas.List.{length-map}
 use Rattle.std.specs.Float.{nan}
-use Rattle.tree.specs.Block.{tab}
 use Rattle.block.specs.Iterate.{at, given, given-still, part-while}
 use Rattle.control.specs.declared.Controls.{Controls}
 use Rattle.float.specs.Single.{zero as zero_f}
 use Rattle.value.specs.Modulators.{arp_index, arp_of}
-use Rattle.sheet.specs.Record.{length_of, kind_of, first_of, number_of, record_at, kind, next}
+use Rattle.sheet.specs.Record.{length_of, first_of, number_of, record_at, next}
 use Rattle.sheet.specs.Tree.{records, spine}
-use Rattle.sheet.specs.Value.{value_of}
+use Rattle.sheet.specs.Value.{value_as}
+use Rattle.sheet.specs.Numbers.{val_number}
+use Rattle.sheet.specs.declared.kinds.Val.{Val}
+use Rattle.sheet.specs.declared.kinds.Val.TheVariants as V
+use Rattle.dsl.specs.declared.Rand.{Rand as Walk}
 use Rattle.sheet.specs.declared.Value.{Value}
-use Rattle.sheet.specs.declared.Value.TheVariants.{Const, Slide, Lfo, Arp, EnvMod, Rand}
+use Rattle.sheet.specs.declared.Value.TheVariants.{Arp, Rand}
 use Rattle.layout.specs.Good.{good}
 use Rattle.layout.specs.Owners.{records-none, records-some}
 use Rattle.layout.specs.Tables.{Table, Passed, next-entry}
@@ -25,7 +27,6 @@ use Rattle.value_unit.specs.declared.Step.{Step}
 use Rattle.unit.specs.Values.{value_unit}
 use Rattle.unit.specs.Unit.{steps_of, srf, kind_unit}
 use Rattle.unit.specs.Block.{moment, Ran, Lent, ran-stateless}
-use Rattle.tree.specs.Lists.{written}
 
 -- ---- an Arp's steps, from the record j of the chain on; the k-th of them, past the end nan
 abbrev pub steps_from : List ℕ → ℕ → List Float
@@ -112,58 +113,42 @@ module _ (s : List ℕ) (n : ℕ) (a : Passed s n) where
       let m : suc k - 1 ≡ k = omega arith in
       (next-entry s n a nexts w j l, ap (λ xs. get_or xs (suc k) nan) e ∙ ap (step_at s (get_or nexts j 0)) (sym m), rw m (omega (arith, ap length e)))
 
--- ---- cases
--- the kind of a value's case
-abbrev pub kind_in : Value → ℕ
-kind_in (Const x) = 41
-kind_in (Slide v) = 42
-kind_in (Lfo v) = 43
-kind_in (Arp rate first) = 44
-kind_in (EnvMod v) = 45
-kind_in (Rand v) = 46
+-- ---- cases: what an Arp's chain and a Rand's kind are, by what the record is read as
+pub arp-case : (val : Val) (r : List ℕ) {rate : Float} {f : ℕ} → value_as (val_number val) r ≡ Arp rate f → f ≡ first_of r
+unfolding value_as val_number
+arp-case V.Const r e = absurd cc
+arp-case V.Slide r e = absurd cc
+arp-case V.Lfo r e = absurd cc
+arp-case V.Arp r e = cc
+arp-case V.EnvMod r e = absurd cc
+arp-case V.Rand r e = absurd cc
 
-pub kind-in : (r : List ℕ) → 41 ≤ kind_of r → kind_of r ≤ 46 → kind_of r ≡ kind_in (value_of r)
-unfolding value_of
-kind-in r h l = elim (ℕ_discrete (kind_of r) 42) [
-  | yes q ↦ rw q
-  | no d2 ↦ elim (ℕ_discrete (kind_of r) 43) [
-    | yes q ↦ rw q
-    | no d3 ↦ elim (ℕ_discrete (kind_of r) 44) [
-      | yes q ↦ rw q
-      | no d4 ↦ elim (ℕ_discrete (kind_of r) 45) [
-        | yes q ↦ rw q
-        | no d5 ↦ elim (ℕ_discrete (kind_of r) 46) [
-          | yes q ↦ rw q
-          | no d6 ↦ let q : kind_of r ≡ 41 = omega arith in rw q
-        ]
-      ]
-    ]
-  ]
-]
+pub rand-case : (val : Val) (r : List ℕ) {v : Walk} → value_as (val_number val) r ≡ Rand v → val_number val ≡ 46
+unfolding value_as val_number
+rand-case V.Const r e = absurd cc
+rand-case V.Slide r e = absurd cc
+rand-case V.Lfo r e = absurd cc
+rand-case V.Arp r e = absurd cc
+rand-case V.EnvMod r e = absurd cc
+rand-case V.Rand r e = refl
 
-arp_first : Value → ℕ
-arp_first (Const x) = 0
-arp_first (Slide v) = 0
-arp_first (Lfo v) = 0
-arp_first (Arp rate first) = first
-arp_first (EnvMod v) = 0
-arp_first (Rand v) = 0
-
-pub arp-first : (r : List ℕ) {rate : Float} {f : ℕ} → kind_of r ≡ 44 → value_of r ≡ Arp rate f → f ≡ first_of r
-unfolding value_of arp_first
-arp-first r k e = let q : arp_first (value_of r) ≡ first_of r = rw k in sym (ap arp_first e) ∙ q
+value-past : (val : Val) → (ltb (val_number val) 21 ≡ false) × (ltb (val_number val) 41 ≡ false)
+unfolding val_number
+value-past V.Const = (refl, refl)
+value-past V.Slide = (refl, refl)
+value-past V.Lfo = (refl, refl)
+value-past V.Arp = (refl, refl)
+value-past V.EnvMod = (refl, refl)
+value-past V.Rand = (refl, refl)
 
 -- the case x that was read from the part of the sheet at a record
-pub told : {r part : List ℕ} {x v : Value} → part ≡ r → x ≡ value_of part → x ≡ v → value_of r ≡ v
-told p e f = ap value_of (sym p) ∙ sym e ∙ f
+module _ {s : List ℕ} {i nc nr : ℕ} (val : Val) (l : Lent s i (val_number val) nc nr) {x v : Value} (e : x ≡ value_as (val_number val) (record_at s i)) (f : x ≡ v) where
+  pub told : value_as (val_number val) (record_at s i) ≡ v
+  told = sym e ∙ f
 
-module _ {s : List ℕ} {i k nc nr : ℕ} (l : Lent s i k nc nr) (h : 41 ≤ k) where
-  pub value_is : {v : Value} → value_of (record_at s i) ≡ v → kind_unit s i ≡ value_unit v (steps_of s i) (srf s) (length_of s)
+  pub value_is : kind_unit s i ≡ value_unit v (steps_of s i) (srf s) (length_of s)
   unfolding kind_unit
-  value_is e = rw (le-ltb (kind s i) 21 (omega (arith, l.kind_is)), le-ltb (kind s i) 41 (omega (arith, l.kind_is)), e)
-
-  pub told-kind : {v : Value} → k ≤ 46 → value_of (record_at s i) ≡ v → k ≡ kind_in v
-  told-kind g e = l.kind_is ∙ kind-in (record_at s i) (omega (arith, l.kind_is)) (omega (arith, l.kind_is)) ∙ ap kind_in e
+  value_is = rw (← l.kind_is, (value-past val).0, (value-past val).1, told)
 
 -- a block of a unit without a state and values, by the kernel's steps
 pub stateless-ran : (f : Controls → List Float → Float → Float) (g : ℕ → Unit {0} → Float × Unit {0}) (c : Controls) {xs cs ys : List Float} {rs : List ℕ}
@@ -172,8 +157,3 @@ stateless-ran f g c y e = ran-stateless f g c [] (λ k l. e k) y
 
 pub constant-ran : (y : Float) (c : Controls) {xs cs ys : List Float} {rs : List ℕ} → ys ≡ map (λ x. y) xs → Ran (stateless (λ t vs x. y)) c [] xs cs rs ys cs rs
 constant-ran y c {xs} e = stateless-ran (λ t vs x. y) (λ k u. (y, u)) c (e ∙ sym (given-still (λ k u. (y, u)) y (λ k u. refl) tt xs)) (λ k. refl)
-
--- Rand's cells as they are stored
-pub three-stored : {A : Type 0} (l : List A) {x y z : A} → length l ≡ 3 → set (set (set l 0 x) 1 y) 2 z ≡ x ∷ y ∷ z ∷ []
-unfolding tab
-three-stored l {x} {y} {z} e = ap (λ l. set (set (set l 0 x) 1 y) 2 z) (written x 3 l e)

@@ -4,6 +4,7 @@
 ghost use Rattle.std.specs.Prelude.{◌≡◌, [], ◌+◌, ◌^◌, ◌≤◌, ◌<◌, length};
 ghost use Rattle.block.specs.Iterate.{given};
 ghost use Rattle.sheet.specs.Record.{next};
+ghost use Rattle.sheet.specs.Numbers.{val_number};
 ghost use Rattle.layout.specs.Tables.{Table, Passed};
 ghost use Rattle.value.specs.Modulators.{arp_index};
 ghost use Rattle.rand_value.specs.Rand.{rand_increment};
@@ -13,6 +14,9 @@ ghost use Rattle.unit.specs.Unit.{kind_unit};
 ghost use Rattle.unit.specs.Block.{Ran, Lent};
 ghost use Rattle.value_unit.specs.Lent.{RanAlone};
 ghost use Rattle.value_unit.specs.Laws.{steps_from, step_at, step_from, arp_step};
+
+use sheet::Record;
+use sheet::kinds::Val;
 
 // The rate as an f32.
 pub fn srf_of(sheet: &[u8]) -> f32
@@ -31,7 +35,8 @@ struct Step {
     number: f32,
 }
 
-// The chain of Step records that begins at first, in a sheet that passes the checks, with the table of its next records.
+// The chain of Step records that begins at first, in a sheet that passes the checks, with the table of its next records. It has
+// no Plan and no `Links` of `layout`: the C interface lends this table and no other.
 #[derive(Clone, Copy)]
 struct Chain<'a> {
     sheet: &'a [u8],
@@ -53,7 +58,7 @@ impl<'a> Chain<'a> {
         for _ in 0..k {
             j = self.nexts[j];
         }
-        sheet::number(&self.sheet[24 + 40 * j..], 0)
+        Record::at(self.sheet, j).number(0)
     }
 
     // The step that sounds at the position t, of n; the chain is walked only where it is not the last one found.
@@ -73,7 +78,7 @@ impl<'a> Chain<'a> {
     }
 }
 
-// An Arp of n steps, n above 0.
+// An Arp of n steps, n above 0. As in `value_block`, a clause says that the positions fit.
 fn arp_steps(out: &mut [f32], chain: Chain, n: u64, rate: f32, srf: f32, t: u64)
     requires { (n ≡ length (steps_from chain.sheet.now chain.first)) × (0 < n) × (t + length out.old < 2 ^ 64) }
     ensures { out.new ≡ given (arp_step (steps_from chain.entry.sheet.now chain.entry.first) rate srf t) tt (length out.old) }
@@ -101,6 +106,7 @@ fn arp(out: &mut [f32], chain: Chain, rate: f32, srf: f32, t: u64)
 
 // ---- Rand
 
+// The memory of a fill is one slice of numbers for all kinds, so the state is read from its cells a number at a time.
 fn rand(out: &mut [f32], v: dsl::Rand, srf: f32, cells: &mut [f32], regs: &mut [u64])
     requires { (length cells.old ≡ 3) × (length regs.old ≡ 1) }
     ensures { RanAlone (rand_unit (rand_increment v.rate srf) v.from v.to) out.old cells.old regs.old out.new cells.new regs.new }
@@ -122,26 +128,26 @@ fn rand(out: &mut [f32], v: dsl::Rand, srf: f32, cells: &mut [f32], regs: &mut [
     cells.copy_from_slice(&[r.prev, r.next, r.phase]);
 }
 
-// ---- by kind, 41 to 46
+// ---- by kind
 
-// It takes the sheet, the count and the nexts, not a Plan: the C interface needs it, where `block_arp` is lent the nexts and no other table.
+// It takes the sheet, the count and the nexts, not a Plan, as Chain does: `block_arp` of the C interface is lent no more.
 pub fn play(
     sheet: &[u8],
     count: usize,
     nexts: &[usize],
     i: usize,
-    kind: u8,
+    val: Val,
     c: control::Controls,
     out: &mut [f32],
     cells: &mut [f32],
     regs: &mut [u64],
 )
-    requires { Lent sheet.now i kind (length cells.old) (length regs.old) × Passed sheet.now count × Table (next sheet.now) count nexts.now × (41 ≤ kind) × (kind ≤ 46) × (c.position + length out.old < 2 ^ 64) }
+    requires { Lent sheet.now i (val_number val) (length cells.old) (length regs.old) × Passed sheet.now count × Table (next sheet.now) count nexts.now × (c.position + length out.old < 2 ^ 64) }
     ensures { Ran (kind_unit sheet.now i) c [] out.old cells.old regs.old out.new cells.new regs.new }
 {
     let srf = srf_of(sheet);
     let t = c.position;
-    match sheet::read_value(&sheet[24 + 40 * i..]) {
+    match Record::at(sheet, i).value(val) {
         sheet::Value::Const(x) => block::fill_block(out, x),
         sheet::Value::Slide(v) => {
             let floored = dsl::Slide {

@@ -3,33 +3,39 @@
 // of its samples and the hash of what it leaves (0: not compared). Then the sheet, and 16 bytes for each call. All numbers have the lowest byte first.
 #![tactic(auto)]
 
-ghost use Rattle.std.specs.Prelude.{◌≡◌, ◌+◌, ◌≤◌, length, take};
+ghost use Rattle.std.specs.Prelude.{◌≡◌, ◌≤◌, take};
 ghost use Rattle.hash.specs.Hash.{basis, hashed, bits_of};
 
 use console::{next_bytes, read_full};
 use control::Controls;
 use performance::Call;
 use refusal::Refusal;
-use std::io;
-use std::io::{BufReader, Read, Write};
+use std::alloc::{AllocError, Global};
+use std::io::{BufRead, BufReader, Read, Write};
+use std::{fmt, io};
 
-// The most calls of a case.
-const CALLS: usize = 64;
+// The most bytes that a sheet has.
+const LONGEST: usize = 10264;
 
-#[derive(Clone, Copy)]
-struct Head {
-    sheet: usize,
-    calls: usize,
-    position: u64,
-    samples: u64,
-    state: u64,
-}
+// ---- what is compared
 
 // A hash, and what it must be.
 #[derive(Clone, Copy)]
 struct Hashes {
     got: u64,
     expected: u64,
+}
+
+impl Hashes {
+    fn differ(self) -> bool {
+        self.got != self.expected
+    }
+}
+
+impl fmt::Display for Hashes {
+    fn fmt<W: fmt::Write>(&self, f: &mut fmt::Formatter<W>) -> fmt::Result {
+        write!(f, "is {:016x} and must be {:016x}", self.got, self.expected)
+    }
 }
 
 #[derive(Clone, Copy)]
@@ -39,88 +45,168 @@ enum Difference {
     State(Hashes),
 }
 
-// How many samples were made, whether the state was compared, and what is not as it must be.
-#[derive(Clone, Copy)]
-struct Outcome {
-    samples: u64,
-    compared: bool,
-    difference: Option<Difference>,
-}
-
-const NOT_PLAYED: Outcome = Outcome {
-    samples: 0,
-    compared: false,
-    difference: Some(Difference::NotPlayed),
-};
-
-// What comes next in the input. After a case that is cut short, or whose sheet or calls are more than what is lent, it is not known where the next
-// one starts.
-#[derive(Clone, Copy)]
-enum Next {
-    Case(Outcome),
-    Cut,
-    End,
-}
-
-// How many samples the fills made, and their hash.
-#[derive(Clone, Copy)]
-struct Sound {
-    samples: u64,
-    hash: u64,
-}
-
-// ---- reading a case
-
-fn u32_at(b: &[u8], at: usize) -> u32
-    requires { at + 4 ≤ length b.now }
-{
-    u32::from_le_bytes([b[at], b[at + 1], b[at + 2], b[at + 3]])
-}
-
-fn u64_at(b: &[u8], at: usize) -> u64
-    requires { at + 8 ≤ length b.now }
-{
-    u64::from(u32_at(b, at)) | u64::from(u32_at(b, at + 4)) << 32
-}
-
-impl From<[u8; 32]> for Head {
-    fn from(b: [u8; 32]) -> Head {
-        Head {
-            sheet: u32_at(&b, 0) as usize,
-            calls: u32_at(&b, 4) as usize,
-            position: u64_at(&b, 8),
-            samples: u64_at(&b, 16),
-            state: u64_at(&b, 24),
+impl fmt::Display for Difference {
+    fn fmt<W: fmt::Write>(&self, f: &mut fmt::Formatter<W>) -> fmt::Result {
+        match self {
+            Difference::NotPlayed => write!(f, "it is not played"),
+            Difference::Samples(h) => write!(f, "the hash of its samples {h}"),
+            Difference::State(h) => write!(f, "the hash of its state {h}"),
         }
     }
 }
 
-// The kind, three bytes of no use, the two floats and the length.
-fn call_of(b: [u8; 16]) -> Call {
-    let x = float::from_bits(u32_at(&b, 4));
-    match b[0] {
-        0 => Call::Fill(u32_at(&b, 12) as usize),
-        1 => Call::Pitch {
-            scale: x,
-            coefficient: float::from_bits(u32_at(&b, 8)),
-        },
-        2 => Call::Bend(x),
-        _ => Call::Cutoff(x),
+// How many samples a voice made, their hash, and where the file has one the hash of what it left.
+#[derive(Clone, Copy)]
+struct Played {
+    samples: u64,
+    sound: Hashes,
+    state: Option<Hashes>,
+}
+
+impl Played {
+    fn difference(self) -> Option<Difference> {
+        if self.sound.differ() {
+            return Some(Difference::Samples(self.sound));
+        }
+        self.state
+            .filter(|h| h.differ())
+            .map(|h| Difference::State(h))
     }
 }
 
-// Fills the calls, and says whether all came whole.
-fn read_calls(input: &mut impl Read, calls: &mut [Call]) -> io::Result<bool> {
-    for call in calls {
-        let Some(next) = next_bytes::<_, 16>(input)? else {
-            return Ok(false);
-        };
-        *call = call_of(next);
+// ---- reading a case
+
+// What stands before a case: how many bytes and calls it has, where it starts, and the hashes.
+#[derive(Clone, Copy)]
+struct Head {
+    sheet: usize,
+    calls: usize,
+    position: u64,
+    sound: u64,
+    state: Option<u64>,
+}
+
+// A voice that is to be played.
+#[derive(Drop)]
+struct Case {
+    head: Head,
+    sheet: Vec<u8>,
+    calls: Vec<Call>,
+}
+
+// What comes next in the input. After a case that is cut short, or whose sheet is longer than any, it is not known where the next one starts.
+#[derive(Drop)]
+enum Next {
+    Case(Case),
+    Cut,
+    End,
+}
+
+fn head_of(bytes: &[u8]) -> Option<Head> {
+    let (sheet, rest) = bytes.split_first_chunk()?;
+    let (calls, rest) = rest.split_first_chunk()?;
+    let (position, rest) = rest.split_first_chunk()?;
+    let (sound, rest) = rest.split_first_chunk()?;
+    let state = u64::from_le_bytes(*rest.first_chunk()?);
+    Some(Head {
+        sheet: u32::from_le_bytes(*sheet) as usize,
+        calls: u32::from_le_bytes(*calls) as usize,
+        position: u64::from_le_bytes(*position),
+        sound: u64::from_le_bytes(*sound),
+        state: (state != 0).then_some(state),
+    })
+}
+
+// The kind, which is the file's number and is read here only, three bytes of no use, the two floats and the length.
+fn call_of(bytes: &[u8]) -> Option<Call> {
+    let (kind, rest) = bytes.split_first_chunk::<4>()?;
+    let (x, rest) = rest.split_first_chunk()?;
+    let (y, length) = rest.split_first_chunk()?;
+    let x = float::from_bits(u32::from_le_bytes(*x));
+    match kind[0] {
+        0 => Some(Call::Fill(u32::from_le_bytes(*length.first_chunk()?) as usize)),
+        1 => Some(Call::Pitch {
+            scale: x,
+            coefficient: float::from_bits(u32::from_le_bytes(*y)),
+        }),
+        2 => Some(Call::Bend(x)),
+        _ => Some(Call::Cutoff(x)),
     }
-    Ok(true)
+}
+
+// The next calls, or `None` where not all come whole.
+fn next_calls(input: &mut impl Read, count: usize, alloc: Global) -> io::Result<Option<Vec<Call>>> {
+    let mut calls = Vec::new(alloc);
+    for _ in 0..count {
+        let Some(call) = next_bytes::<_, 16>(input)?.and_then(|b| call_of(&b)) else {
+            return Ok(None);
+        };
+        calls.push(call)?;
+    }
+    Ok(Some(calls))
+}
+
+fn next_case(input: &mut impl BufRead, alloc: Global) -> io::Result<Next> {
+    if input.fill_buf()?.is_empty() {
+        return Ok(Next::End);
+    }
+    let Some(head) = next_bytes::<_, 32>(input)?.and_then(|b| head_of(&b)) else {
+        return Ok(Next::Cut);
+    };
+    if LONGEST < head.sheet {
+        return Ok(Next::Cut);
+    }
+    let mut sheet = vec![in alloc; 0u8; head.sheet]?;
+    if read_full(input, sheet.as_mut_slice())? < head.sheet {
+        return Ok(Next::Cut);
+    }
+    let Some(calls) = next_calls(input, head.calls, alloc)? else {
+        return Ok(Next::Cut);
+    };
+    Ok(Next::Case(Case { head, sheet, calls }))
 }
 
 // ---- one case
+
+// What every voice is lent. A rendering has a struct of four `Vec`s too; a crate for both would be longer than they are.
+#[derive(Drop)]
+struct Memory {
+    out: Vec<f32>,
+    cells: Vec<f32>,
+    registers: Vec<u64>,
+    scratch: Vec<f32>,
+}
+
+impl Memory {
+    fn new(alloc: Global) -> Result<Memory, AllocError> {
+        Ok(Memory {
+            out: vec![in alloc; 0.0f32; 16384]?,
+            cells: vec![in alloc; 0.0f32; 65536]?,
+            registers: vec![in alloc; 0u64; 1024]?,
+            scratch: vec![in alloc; 0.0f32; 16384]?,
+        })
+    }
+
+    // The needs of a sheet that was built are at most what is lent, so that `least` takes all of them.
+    fn state_hash(&self, sheet: &[u8], c: Controls) -> Result<u64, Refusal> {
+        let needed = player::needs(sheet)?;
+        let cells = self.cells.as_slice();
+        let registers = self.registers.as_slice();
+        let scratch = self.scratch.as_slice();
+        Ok(hash::hash_state(
+            c,
+            &cells[..least(needed.cells, cells.len())],
+            &registers[..least(needed.registers, registers.len())],
+            &scratch[..least(needed.scratch, scratch.len())],
+        ))
+    }
+}
+
+fn least(n: u64, most: usize) -> usize
+    ensures { result ≤ most }
+{
+    n.min(most as u64) as usize
+}
 
 // The samples of the fills that have room.
 fn filled(calls: &[Call], room: usize) -> usize
@@ -136,6 +222,13 @@ fn filled(calls: &[Call], room: usize) -> usize
     room - left
 }
 
+// How many samples the fills made, and their hash.
+#[derive(Clone, Copy)]
+struct Sound {
+    samples: u64,
+    hash: u64,
+}
+
 // The samples of accepted calls stand in out, one after another.
 fn sound_of(calls: &[Call], out: &[f32]) -> Sound
     ensures { result.hash ≡ hashed bits_of basis (take result.samples out.now) }
@@ -147,132 +240,42 @@ fn sound_of(calls: &[Call], out: &[f32]) -> Sound
     }
 }
 
-fn least(n: u64, most: usize) -> usize
-    ensures { result ≤ most }
-{
-    n.min(most as u64) as usize
-}
-
-// The needs of a sheet that was built are at most what is lent, so that `least` takes all of them.
-fn state_of(
-    sheet: &[u8],
-    c: Controls,
-    cells: &[f32],
-    regs: &[u64],
-    scr: &[f32],
-) -> Result<u64, Refusal> {
-    let needed = player::needs(sheet)?;
-    let m = least(needed.cells, cells.len());
-    let r = least(needed.registers, regs.len());
-    let s = least(needed.scratch, scr.len());
-    Ok(hash::hash_state(c, &cells[..m], &regs[..r], &scr[..s]))
-}
-
-// The outcome by the hashes; no state is compared where its hash must be 0.
-fn judged(head: Head, sound: Sound, state: u64) -> Outcome {
-    let compared = head.state != 0;
-    let difference = if sound.hash != head.samples {
-        Some(Difference::Samples(Hashes {
-            got: sound.hash,
-            expected: head.samples,
+impl Case {
+    // Builds the voice at its position, and makes its calls, of which each must be accepted. `None` where one is not. The answers are
+    // the machine's numbers, as `performance::play` writes them; here each is only compared with 0.
+    fn play(&self, answers: &mut [u8], memory: &mut Memory) -> Result<Option<Played>, Refusal> {
+        let sheet = self.sheet.as_slice();
+        let calls = self.calls.as_slice();
+        let out = memory.out.as_mut_slice();
+        let cells = memory.cells.as_mut_slice();
+        let registers = memory.registers.as_mut_slice();
+        let scratch = memory.scratch.as_mut_slice();
+        let built = player::build(sheet, Controls::fresh(), cells, registers, scratch)?;
+        let c = Controls {
+            position: self.head.position,
+            ..built
+        };
+        let Some(last) = performance::play(sheet, calls, c, answers, out, cells, registers, scratch)
+        else {
+            return Ok(None);
+        };
+        if answers.iter().any(|answer| *answer != 0) {
+            return Ok(None);
+        }
+        let sound = sound_of(calls, out);
+        let left = memory.state_hash(sheet, last)?;
+        Ok(Some(Played {
+            samples: sound.samples,
+            sound: Hashes {
+                got: sound.hash,
+                expected: self.head.sound,
+            },
+            state: self.head.state.map(|expected| Hashes {
+                got: left,
+                expected,
+            }),
         }))
-    } else if compared && state != head.state {
-        Some(Difference::State(Hashes {
-            got: state,
-            expected: head.state,
-        }))
-    } else {
-        None
-    };
-    Outcome {
-        samples: sound.samples,
-        compared,
-        difference,
     }
-}
-
-// Builds a voice at its position, and plays its calls.
-fn replay(
-    sheet: &[u8],
-    head: Head,
-    calls: &[Call],
-    answers: &mut [u8],
-    out: &mut [f32],
-    cells: &mut [f32],
-    regs: &mut [u64],
-    scr: &mut [f32],
-) -> Result<Outcome, Refusal> {
-    let built = player::build(sheet, Controls::fresh(), cells, regs, scr)?;
-    let c = Controls {
-        position: head.position,
-        ..built
-    };
-    let Some(last) = performance::play(sheet, calls, c, answers, out, cells, regs, scr) else {
-        return Ok(NOT_PLAYED);
-    };
-    if answers.iter().any(|answer| *answer != 0) {
-        return Ok(NOT_PLAYED);
-    }
-    let sound = sound_of(calls, out);
-    let state = state_of(sheet, last, cells, regs, scr)?;
-    Ok(judged(head, sound, state))
-}
-
-// Reads the calls, lends a place to each, and plays the voice. `None` where the calls do not come whole.
-fn with_calls(
-    input: &mut impl Read,
-    sheet: &[u8],
-    head: Head,
-    out: &mut [f32],
-    cells: &mut [f32],
-    regs: &mut [u64],
-    scr: &mut [f32],
-) -> io::Result<Option<Outcome>>
-    requires { head.calls ≤ 64 }
-{
-    let mut calls = [Call::Fill(0); CALLS];
-    let mut answers = [0u8; CALLS];
-    let n = head.calls;
-    if !read_calls(input, &mut calls[..n])? {
-        return Ok(None);
-    }
-    let outcome = replay(
-        sheet,
-        head,
-        &calls[..n],
-        &mut answers[..n],
-        out,
-        cells,
-        regs,
-        scr,
-    );
-    Ok(Some(outcome.unwrap_or(NOT_PLAYED)))
-}
-
-// Reads a case, the sheet into buf, and plays it.
-fn next_case(
-    input: &mut impl Read,
-    buf: &mut [u8],
-    out: &mut [f32],
-    cells: &mut [f32],
-    regs: &mut [u64],
-    scr: &mut [f32],
-) -> io::Result<Next> {
-    let mut bytes = [0u8; 32];
-    let got = read_full(input, &mut bytes)?;
-    if got == 0 {
-        return Ok(Next::End);
-    }
-    let head = Head::from(bytes);
-    let n = head.sheet;
-    if got < 32 || buf.len() < n || CALLS < head.calls {
-        return Ok(Next::Cut);
-    }
-    if read_full(input, &mut buf[..n])? < n {
-        return Ok(Next::Cut);
-    }
-    let played = with_calls(input, &buf[..n], head, out, cells, regs, scr)?;
-    Ok(played.map_or(Next::Cut, |outcome| Next::Case(outcome)))
 }
 
 // ---- all cases
@@ -288,28 +291,40 @@ struct Run {
 }
 
 impl Run {
-    fn count(&mut self, outcome: Outcome) {
-        if let Some(difference) = outcome.difference {
+    // One more case, which was played or not.
+    fn count(&mut self, played: Option<Played>) {
+        let difference = played.map_or(Some(Difference::NotPlayed), |p| p.difference());
+        if let Some(difference) = difference {
             self.differences = self.differences.wrapping_add(1);
             if self.first.is_none() {
                 self.first = Some((self.cases, difference));
             }
         }
         self.cases = self.cases.wrapping_add(1);
-        self.samples = self.samples.wrapping_add(outcome.samples);
-        self.states = self.states.wrapping_add(u64::from(outcome.compared));
+        if let Some(p) = played {
+            self.samples = self.samples.wrapping_add(p.samples);
+            self.states = self.states.wrapping_add(u64::from(p.state.is_some()));
+        }
+    }
+}
+
+impl fmt::Display for Run {
+    fn fmt<W: fmt::Write>(&self, f: &mut fmt::Formatter<W>) -> fmt::Result {
+        writeln!(f, "cases {}", self.cases)?;
+        writeln!(f, "samples {}", self.samples)?;
+        writeln!(f, "states {}", self.states)?;
+        writeln!(f, "differences {}", self.differences)?;
+        if let Some((at, difference)) = self.first {
+            writeln!(f, "the first at case {at}")?;
+            writeln!(f, "{difference}")?;
+        }
+        Ok(())
     }
 }
 
 // The turns are more than any input has, so that the loop ends.
-fn run_all(
-    input: &mut impl Read,
-    buf: &mut [u8],
-    out: &mut [f32],
-    cells: &mut [f32],
-    regs: &mut [u64],
-    scr: &mut [f32],
-) -> io::Result<Run> {
+fn run_all(input: &mut impl BufRead, alloc: Global) -> io::Result<Run> {
+    let mut memory = Memory::new(alloc)?;
     let mut run = Run {
         cases: 0,
         samples: 0,
@@ -318,10 +333,14 @@ fn run_all(
         first: None,
     };
     for _ in 0..u64::MAX {
-        match next_case(input, buf, out, cells, regs, scr)? {
-            Next::Case(outcome) => run.count(outcome),
+        match next_case(input, alloc)? {
+            Next::Case(case) => {
+                let mut answers = vec![in alloc; 0u8; case.calls.len()]?;
+                let played = case.play(answers.as_mut_slice(), &mut memory);
+                run.count(played.unwrap_or(None));
+            }
             Next::Cut => {
-                run.count(NOT_PLAYED);
+                run.count(None);
                 return Ok(run);
             }
             Next::End => return Ok(run),
@@ -330,45 +349,8 @@ fn run_all(
     Ok(run)
 }
 
-// ---- the report
-
-fn say_hashes(output: &mut impl Write, name: &str, h: Hashes) -> io::Result<()> {
-    writeln!(
-        output,
-        "the hash of its {name} is {:016x} and must be {:016x}",
-        h.got, h.expected
-    )
-}
-
-fn report(output: &mut impl Write, run: Run) -> io::Result<()> {
-    writeln!(output, "cases {}", run.cases)?;
-    writeln!(output, "samples {}", run.samples)?;
-    writeln!(output, "states {}", run.states)?;
-    writeln!(output, "differences {}", run.differences)?;
-    if let Some((at, difference)) = run.first {
-        writeln!(output, "the first at case {at}")?;
-        match difference {
-            Difference::NotPlayed => writeln!(output, "it is not played")?,
-            Difference::Samples(h) => say_hashes(output, "samples", h)?,
-            Difference::State(h) => say_hashes(output, "state", h)?,
-        }
-    }
-    Ok(())
-}
-
 fn main(rt: HostRuntime) -> io::Result<()> {
-    let mut buf = [0u8; 10264];
-    let mut out = [0.0f32; 16384];
-    let mut cells = [0.0f32; 65536];
-    let mut regs = [0u64; 1024];
-    let mut scr = [0.0f32; 16384];
-    let run = run_all(
-        &mut BufReader::new(rt.alloc(), rt.stdin())?,
-        &mut buf,
-        &mut out,
-        &mut cells,
-        &mut regs,
-        &mut scr,
-    )?;
-    report(&mut rt.stdout(), run)
+    let mut input = BufReader::new(rt.alloc(), rt.stdin())?;
+    let run = run_all(&mut input, rt.alloc())?;
+    write!(rt.stdout(), "{run}")
 }

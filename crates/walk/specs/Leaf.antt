@@ -12,7 +12,8 @@ use Rattle.block.specs.Patch.{All, played, steps, leaf-none, leaf-one, leaf-two,
 use Rattle.control.specs.declared.Controls.{Controls}
 use Rattle.sheet.specs.Record.{count_of, kind}
 use Rattle.sheet.specs.Kinds.{Chain, empty, values, nodes, modes, steps as steps_of, row_of, is_fold, is_value}
-use Rattle.layout.specs.Built.{role, built, is_built, begin, after as after_of}
+use Rattle.layout.specs.Built.{role, is_built, begin, after as after_of}
+use Rattle.layout.specs.declared.Role.TheVariants.{Built}
 use Rattle.layout.specs.Good.{good}
 use Rattle.layout.specs.Counts.{layout_of}
 use Rattle.layout.proofs.Contents.{Value, one_value, two-values, no-links}
@@ -20,7 +21,12 @@ use Rattle.unit.specs.Own.{Own, silence}
 use Rattle.unit.specs.Unit.{unit_of}
 use Rattle.unit.specs.Voice.{voice, tree_kind, entered, playing}
 use Rattle.unit.specs.Sound.{OwnSound}
-use Rattle.units.specs.Values.{values_of, buffers_of, leaf-chain, leaf-quiet, leaf-most, leaf-values, value-quiet}
+use Rattle.sheet.specs.Numbers.{chain_of}
+use Rattle.sheet.specs.Laws.{never}
+use Rattle.sheet.specs.declared.kinds.Chain.{Chain as Made}
+use Rattle.sheet.specs.declared.kinds.Chain.TheVariants as C
+use Rattle.unit.specs.Buffers.{values_in, values_of, buffers_of}
+use Rattle.units.specs.Values.{leaf-chain, leaf-quiet, leaf-most, leaf-values, value-quiet}
 use Rattle.walk.specs.Nodes.{value-blind}
 use Rattle.walk.specs.Walk.{Sound, Voiced, Owned, Valued, Played, Leafed, leaf-is}
 
@@ -70,13 +76,13 @@ module _ {s : List ℕ} (v : Voiced s) where
   values-entered : (i n : ℕ) → values_of (kind s i) ≡ suc n → entered s i ≡ begin s i
   values-entered i n z = rw (leaf-values (row_of (kind s i)).chain n z)
 
-  pub value-one : (i n : ℕ) → i < count_of s → role s i ≡ built → values_of (kind s i) ≡ suc n → n ≤ 1 → Value s (good s v.passed.passed) i (begin s i)
+  pub value-one : (i n : ℕ) → i < count_of s → role s i ≡ Built → values_of (kind s i) ≡ suc n → n ≤ 1 → Value s (good s v.passed.passed) i (begin s i)
   value-one i n h r z l = elim (ℕ_discrete n 0) [
     | yes e ↦ (one_value s (good s v.passed.passed) i h r (leaf-values _ 0 (z ∙ ap suc e))).0
     | no d ↦ let e : n ≡ 1 = omega arith in (two-values s (good s v.passed.passed) i h r (leaf-values _ 1 (z ∙ ap suc e))).0
   ]
 
-  pub value-two : (i : ℕ) → i < count_of s → role s i ≡ built → values_of (kind s i) ≡ 2 → Value s (good s v.passed.passed) i (after_of s (begin s i))
+  pub value-two : (i : ℕ) → i < count_of s → role s i ≡ Built → values_of (kind s i) ≡ 2 → Value s (good s v.passed.passed) i (after_of s (begin s i))
   value-two i h r z = (two-values s (good s v.passed.passed) i h r (leaf-values _ 1 z)).1
 
   -- ---- a leaf by its values
@@ -87,7 +93,7 @@ module _ {s : List ℕ} (v : Voiced s) where
   quiet-length : (xs : List Float) {m : ℕ} → m ≡ length xs → m ≡ length (map (λ x. silence) xs)
   quiet-length xs e = e ∙ sym (length-map xs (λ x. silence))
 
-  pub leafed-one : (i : ℕ) → i < count_of s → role s i ≡ built → tree_kind (kind s i) ≡ leaf → values_of (kind s i) ≡ 1
+  pub leafed-one : (i : ℕ) → i < count_of s → role s i ≡ Built → tree_kind (kind s i) ≡ leaf → values_of (kind s i) ≡ 1
       → (c : Controls) (xs bs cs : List Float) (rs : List ℕ) (ds es : List Float) (ss : List ℕ) (ys fs : List Float) (ts : List ℕ) → Sound s cs rs → length bs ≡ length xs
       → Played s (begin s i) c bs [] cs rs ds es ss → Played s i c xs (ds ∷ []) es ss ys fs ts → Leafed s i c xs cs rs ys fs ts
   leafed-one i h r k z c xs bs cs rs ds es ss ys fs ts a l p q =
@@ -100,7 +106,7 @@ module _ {s : List ℕ} (v : Voiced s) where
             ∙ sym (leaf-one (voice s) v.valid i k (begin s i) (values-entered i 0 z) w.some w.in_sheet (value_none (begin s i) w.in_sheet w.value) o.1 c xs (cs, rs) (a.room (begin s i) w.in_sheet) (a.room i h));
       }
 
-  pub leafed-two : (i : ℕ) → i < count_of s → role s i ≡ built → tree_kind (kind s i) ≡ leaf → values_of (kind s i) ≡ 2
+  pub leafed-two : (i : ℕ) → i < count_of s → role s i ≡ Built → tree_kind (kind s i) ≡ leaf → values_of (kind s i) ≡ 2
       → (c : Controls) (xs bs us cs : List Float) (rs : List ℕ) (ds es : List Float) (ss : List ℕ) (ws fs : List Float) (ts : List ℕ) (ys gs : List Float) (rs' : List ℕ) → Sound s cs rs → length bs ≡ length xs → length us ≡ length xs
       → Played s (begin s i) c bs [] cs rs ds es ss → Played s (after_of s (begin s i)) c us [] es ss ws fs ts → Played s i c xs (ds ∷ ws ∷ []) fs ts ys gs rs' → Leafed s i c xs cs rs ys gs rs'
   leafed-two i h r k z c xs bs us cs rs ds es ss ws fs ts ys gs rs' a lb lu p q t =
@@ -138,6 +144,25 @@ leaf-two-is k m f d e p q = let l = leaf-most (row_of k).chain (leaf-chain k f d
 
 pub leaf-some : (k m : ℕ) → m ≡ values_of k → is_fold k ≡ false → k ≢ 13 → m ≢ 0 → (n : ℕ) × (values_of k ≡ suc n) × (n ≤ 1)
 leaf-some k m e f d p = let l = leaf-most (row_of k).chain (leaf-chain k f d) in (m - 1, omega arith, omega arith)
+
+-- and by what its kind's chain is made of
+pub count-is : {n k m : ℕ} → chain_of (C.Values m) ≡ (row_of n).chain → n ≡ k → m ≡ values_of k
+unfolding chain_of
+count-is e q = ap values_in e ∙ ap values_of q
+
+pub count-some : {n k m : ℕ} → is_fold k ≡ false → k ≢ 13 → chain_of (C.Values m) ≡ (row_of n).chain → n ≡ k → m ≢ 0
+unfolding chain_of
+count-some {n} {k} {m} f d e q z =
+    let p : values m ≡ (row_of k).chain = e ∙ ap (λ k. (row_of k).chain) q in
+    never (sym (rw (← p, z) at (leaf-chain k f d)))
+
+pub count-none : (c : Made) {n k : ℕ} → chain_of c ≡ (row_of n).chain → ((m : ℕ) → c ≢ C.Values m) → n ≡ k → 0 ≡ values_of k
+unfolding chain_of
+count-none C.Empty e d q = ap values_in e ∙ ap values_of q
+count-none (C.Values m) e d q = absurd (d m refl)
+count-none C.Nodes e d q = ap values_in e ∙ ap values_of q
+count-none C.Modes e d q = ap values_in e ∙ ap values_of q
+count-none C.Steps e d q = ap values_in e ∙ ap values_of q
 
 -- ---- a leaf: what its values are lent, and what they leave
 pub record Leaf (s : List ℕ) (i : ℕ) (c : Controls) (nv nw : ℕ) : Type 0 where

@@ -1,7 +1,7 @@
 -- What the walk is lent for a block, and what it leaves: the block runs of the voice's theory (`source`, `along` and `played` of crate block's Patch).
-use Rattle.std.specs.Prelude.{◌≡◌, refl, Bool, true, false, cond, ◌||◌, ◌≢◌, ℕ, zero, suc, ◌+◌, ◌-◌, ◌^◌, ◌≤◌, ◌<◌, eqb, leb, take, drop}
+use Rattle.std.specs.Prelude.{◌≡◌, refl, true, false, cond, ◌≢◌, ℕ, zero, suc, ◌+◌, ◌-◌, ◌^◌, ◌≤◌, ◌<◌, eqb, take, drop}
 use Rattle.std.proofs.Math.Path.{sym, ap, subst₃}
-use Rattle.std.proofs.Common.{ap₂, ◌∙◌, subst, length-take, take-take, take_at, drop_at, drop-drop, eq-eqb, ne_eqb, leb-true}
+use Rattle.std.proofs.Common.{ap₂, ◌∙◌, subst, length-take, take-take, take_at, drop_at, drop-drop, ne_eqb}
 use mathlib.Core.List.{List, [], ◌∷◌, ◌++◌, map}
 use native.Mathlib.Omega.{arith}
 use Rattle.std.proofs.Math.Decide.{ℕ_discrete}
@@ -15,8 +15,10 @@ use Rattle.tree.specs.Lists.{map-const, zip_length, lay-part}
 use Rattle.block.specs.Patch.{Valid, All, source, along, played, along-none, along-some, source-all}
 use Rattle.control.specs.declared.Controls.{Controls}
 use Rattle.sheet.specs.Record.{count_of, kind}
+use Rattle.sheet.specs.Numbers.{kind_number}
 use Rattle.sheet.specs.Kinds.{nodes, row_of, is_fold, is_value}
-use Rattle.layout.specs.Built.{role, built, begin, after}
+use Rattle.layout.specs.Built.{role, begin, after}
+use Rattle.layout.specs.declared.Role.TheVariants.{Built}
 use Rattle.layout.specs.Needs.{cells, registers, scratch, cells_by, registers_by, cells_from, registers_from, scratch_from}
 use Rattle.layout.specs.Tables.{Passed}
 use Rattle.plan.specs.declared.Row.{Row}
@@ -24,7 +26,7 @@ use Rattle.plan.specs.Rowed.{Rowed}
 use Rattle.layout.specs.Good.{good}
 use Rattle.layout.proofs.Laws.{playable}
 use Rattle.layout.specs.Counts.{cells-built, registers-built}
-use Rattle.sheet.specs.Laws.{sum-suc, never, both}
+use Rattle.sheet.specs.Laws.{sum-suc}
 use Rattle.unit.specs.Own.{Own, Ugen, silence}
 use Rattle.unit.specs.Unit.{kind_unit, unit_of}
 use Rattle.unit.specs.Voice.{voice, tree_kind, entered, join_of, empty_of}
@@ -59,7 +61,7 @@ pub record Ready (c : Controls) (pitch : List Float) (n nv nw : ℕ) : Type 0 wh
 -- what plays by itself
 pub record Owned (s : List ℕ) (i : ℕ) : Type 0 where
   pub inside : i < count_of s
-  pub built_is : role s i ≡ built
+  pub built_is : role s i ≡ Built
 
 -- a node: of the two buffers, which hold its values
 pub record Lends (s : List ℕ) (i : ℕ) (c : Controls) (pitch : List Float) (n nv nw : ℕ) : Type 0 where
@@ -342,21 +344,13 @@ pub fold_is : (s : List ℕ) (i : ℕ) → is_fold (kind s i) ≡ true → tree_
 unfolding tree_kind
 fold_is s i e = rw e
 
-pub chain_is : (s : List ℕ) (i : ℕ) → is_fold (kind s i) ≡ false → kind s i ≡ 13 → tree_kind (kind s i) ≡ chain
+pub chain_is : (s : List ℕ) (i : ℕ) → kind s i ≡ 13 → tree_kind (kind s i) ≡ chain
 unfolding tree_kind
-chain_is s i e d = rw (e, eq-eqb (kind s i) 13 d)
+chain_is s i e = rw e
 
 pub leaf-is : (s : List ℕ) (i : ℕ) → is_fold (kind s i) ≡ false → kind s i ≢ 13 → tree_kind (kind s i) ≡ leaf
 unfolding tree_kind
 leaf-is s i e d = rw (e, ne_eqb (kind s i) 13 d)
-
--- a leaf's kind k, by the tests on the number n that was read
-pub leaf-left : {k n : ℕ} {f : Bool} → n ≡ k → f ≡ is_fold n → f || eqb n 13 ≡ false → (is_fold k ≡ false) × (k ≢ 13)
-leaf-left {k} {n} {f} p q e = let r = neither f (eqb n 13) e in (ap is_fold (sym p) ∙ sym q ∙ r.0, λ z. never (sym (eq-eqb n 13 (p ∙ z)) ∙ r.1))
-  where
-    neither : (a b : Bool) → a || b ≡ false → (a ≡ false) × (b ≡ false)
-    neither true b x = never x
-    neither false b x = (refl, x)
 
 -- what is left of the records from j on, none from 0
 unfoldable pub left : List ℕ → ℕ → ℕ
@@ -371,6 +365,7 @@ left_less {s} p j d h = let w = playable s p.passed in elim (ℕ_discrete (after
 
 -- ---- a record's own parts, by its row
 pub record Parts (s : List ℕ) (i : ℕ) (r : Row) (nc nr : ℕ) : Type 0 where
+  pub rowed : Rowed s i r
   pub cup : r.cells ≤ r.cells_end
   pub cin : r.cells_end ≤ nc
   pub cn : r.cells_end - r.cells ≡ cells_by s i
@@ -386,6 +381,7 @@ parts-of {s} {i} o w a =
     let bc = cells-built s i o.built_is in
     let br = registers-built s i o.built_is in
     record {
+      rowed = w;
       cup = omega (arith, w.cells_is, w.cells_end_is);
       cin = omega (arith, room.0, w.cells_end_is);
       cn = omega (arith, w.cells_is, w.cells_end_is);
@@ -395,27 +391,23 @@ parts-of {s} {i} o w a =
     }
 
 -- what the function of the record's kind is lent
-pub lent_of : {s : List ℕ} {i : ℕ} → Voiced s → Owned s i → {r : Row} → Rowed s i r → {cs : List Float} {rs : List ℕ} → Sound s cs rs
-    → Lent s i r.kind (length (take (r.cells_end - r.cells) (drop r.cells cs))) (length (take (r.registers_end - r.registers) (drop r.registers rs)))
-lent_of v o q a =
-    let w = parts-of o q a in
+pub lent_of : {s : List ℕ} {i : ℕ} → Voiced s → Owned s i → {r : Row} {cs : List Float} {rs : List ℕ} → Parts s i r (length cs) (length rs) → Sound s cs rs
+    → Lent s i (kind_number r.kind) (length (take (r.cells_end - r.cells) (drop r.cells cs))) (length (take (r.registers_end - r.registers) (drop r.registers rs)))
+lent_of v o w a =
     record {
       passed = v.passed.passed;
       inside = o.inside;
-      kind_is = q.kind_is;
+      kind_is = w.rowed.kind_is;
       cells = simp (length-take, length-drop) (omega (arith, w.cin, w.cup, w.cn));
       registers = simp (length-take, length-drop) (omega (arith, w.rin, w.rup, w.rn));
     }
-
-pub value-kinds : (k : ℕ) → is_value k ≡ true → (41 ≤ k) × (k ≤ 46)
-value-kinds k e = let r = both (leb 41 k) (leb k 46) e in (leb-true 41 k r.0, leb-true k 46 r.1)
 
 ran-same : {f g : Ugen} {c : Controls} {bufs : List (List Float)} {xs cs : List Float} {rs : List ℕ} {ys ds : List Float} {ss : List ℕ} {cs' : List Float} {rs' : List ℕ}
     → Ran f c bufs xs cs rs ys ds ss → f ≡ g → cs ≡ cs' → rs ≡ rs' → Ran g c bufs xs cs' rs' ys ds ss
 ran-same {c = c} {bufs} {xs} {ys = ys} {ds} {ss} r p q t = subst₃ (λ f cs rs. Ran f c bufs xs cs rs ys ds ss) p q t r
 
 -- the unit on the parts that were lent
-pub own_is : (s : List ℕ) (i : ℕ) (c : Controls) (xs : List Float) (bufs : List (List Float)) (cs : List Float) (rs : List ℕ) (ys ds : List Float) (ss : List ℕ) (a e p q : ℕ) → role s i ≡ built
+pub own_is : (s : List ℕ) (i : ℕ) (c : Controls) (xs : List Float) (bufs : List (List Float)) (cs : List Float) (rs : List ℕ) (ys ds : List Float) (ss : List ℕ) (a e p q : ℕ) → role s i ≡ Built
     → a ≡ cells_from s i → e ≡ cells_from s (i + 1) → p ≡ registers_from s i → q ≡ registers_from s (i + 1) → e ≤ length cs → q ≤ length rs → length ds ≡ e - a → length ss ≡ q - p
     → Ran (kind_unit s i) c bufs xs (take (e - a) (drop a cs)) (take (q - p) (drop p rs)) ys ds ss
     → Played s i c xs bufs cs rs ys (take a cs ++ (ds ++ drop (e - a) (drop a cs))) (take p rs ++ (ss ++ drop (q - p) (drop p rs)))
@@ -435,7 +427,7 @@ own_is s i c xs bufs cs rs ys ds ss a e p q b ea ee ep eq le lq ld ls r =
     }
 
 -- check 9 of the parts that were lent
-pub own-sound : (s : List ℕ) (cs : List Float) (rs : List ℕ) → Sound s cs rs → (i a e p q : ℕ) → i < count_of s → role s i ≡ built → a ≡ cells_from s i → p ≡ registers_from s i → e - a ≡ cells_by s i → q - p ≡ registers_by s i
+pub own-sound : (s : List ℕ) (cs : List Float) (rs : List ℕ) → Sound s cs rs → (i a e p q : ℕ) → i < count_of s → role s i ≡ Built → a ≡ cells_from s i → p ≡ registers_from s i → e - a ≡ cells_by s i → q - p ≡ registers_by s i
     → own_ok s i (take (e - a) (drop a cs), take (q - p) (drop p rs)) ≡ true
 own-sound s cs rs w i a e p q h b ea ep na nr =
     let na' : e - a ≡ cells s i = na ∙ sym (cells-built s i b) in

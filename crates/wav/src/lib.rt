@@ -34,7 +34,8 @@ pub fn pcm16(x: f32) -> u16
     std::num::saturating_f32_to_i16(whole).cast_unsigned()
 }
 
-// The samples' bytes, at the start of out.
+// The samples' bytes, at the start of out: what is read and what is written are two slices of two types.
+#[tactic(auto, unfolding(crate::specs::Wav::bytes_of))]
 pub fn encode(samples: &[f32], out: &mut [u8])
     requires { 2 * length samples.now ≤ length out.old }
     ensures { out.new ≡ bytes_of samples.now ++ drop (2 * length samples.now) out.old }

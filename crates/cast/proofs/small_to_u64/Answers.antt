@@ -17,14 +17,11 @@ less b n e = omega arith
 left : (b n : ℕ) → b ≡ 1093664768 + n → b - 1093664768 ≡ n
 left b n e = omega arith
 
-pub float_to_float-bits : goal.float_to_float-bits
-float_to_float-bits c = (known c.before).wide
-
 pub float_to_bits-bits : goal.float_to_bits-bits
-float_to_bits-bits c = rw two-20 (known c.before).number
+float_to_bits-bits c = rw (c.from.ensures, two-20) (known c.before).number
 
 pub overflow_sub-result : goal.overflow_sub-result
-overflow_sub-result c = rw two-20 (less _ _ (known c.before).gives)
+overflow_sub-result c = rw (c.from.ensures, two-20) (less _ _ (known c.before).gives)
 
 pub returns : goal.returns
-returns c = rw two-20 (left _ _ (known c.before).gives)
+returns c = rw (c.from.ensures, two-20) (left _ _ (known c.before).gives)

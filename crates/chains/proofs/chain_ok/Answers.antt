@@ -1,45 +1,38 @@
-use Rattle.std.specs.Prelude.{◌≡◌, refl, true, false, Bool, cond, ◌&&◌, ◌||◌, List, ℕ, ◌≤◌, eqb, ltb, length, Option, Some, None}
-use Rattle.std.proofs.Common.{sym, ap, ap₂, ◌∙◌, arith, rules}
+-- `chains::chain_ok` meets its contract: what a chain holds is what may stand in it, and how many.
+use Rattle.std.specs.Prelude.{◌≡◌, refl, true, false, Bool, cond, ◌&&◌, List, ℕ, ◌<◌, length, get_or, Option, Some, None}
+use Rattle.std.proofs.Common.{sym, ap, ◌∙◌, arith}
+use Rattle.std.proofs.lemmas.List.{length-map}
 use Rattle.std.proofs.lemmas.Option.{cond_some, none-some}
-use Rattle.sheet.specs.Kinds.{Chain}
-use Rattle.sheet.specs.Codes.{chain_of, class_of, want_of}
-use Rattle.sheet.specs.Checks.{every, holds}
-use Rattle.sheet.specs.Links.{along, chain_at}
-use Rattle.sheet.specs.LinkLaws.{along-nil, holds-nil, holds-is}
+use Rattle.sheet.specs.Kinds.{Chain, row_of}
+use Rattle.sheet.specs.Checks.{every, holds, allows, counts}
+use Rattle.sheet.specs.Links.{at, chain_at}
+use Rattle.sheet.specs.LinkLaws.{holds-both}
+use Rattle.sheet.specs.Laws.{number-at}
+use Rattle.sheet.specs.Numbers.{kind_number, numbers_of}
+use Rattle.sheet.specs.declared.kinds.Kind.{Kind}
 use Rattle.chains.proofs.chain_ok.Goals as goal
 
-empty : (c : ℕ) (h : Chain) (k f x : ℕ → ℕ) (n j : ℕ) → chain_of c ≡ h → c ≤ 5 → j ≡ 0 → (eqb c 0 || ltb 2 c) ≡ holds h (along k f x n j)
-empty c h k f x n j ec l e = holds-nil c l ∙ ap₂ holds ec (sym (ap (λ (i : ℕ). along k f x n i) e ∙ along-nil k f x n))
+module _ {c h : Chain} (e : c ≡ h) (ks : List ℕ) {o : Option ℕ} (m : o ≡ cond (every (allows c) ks) (Some (length ks)) None) where
+  counted : (n : ℕ) → o ≡ Some n → counts c n ≡ holds h ks
+  counted n q =
+      let p = cond_some (every (allows c) ks) (length ks) n (sym m ∙ q) in
+      ap (counts c) (sym p.1) ∙ ap (λ (a : Bool). a && counts c (length ks)) (sym p.0) ∙ sym (holds-both c ks) ∙ ap (λ (g : Chain). holds g ks) e
 
-module _ (c w : ℕ) (h : Chain) (ks : List ℕ) (ec : chain_of c ≡ h) (l : c ≤ 5) (ew : w ≡ want_of c) where
-  held : (a : Bool) → every (λ k. eqb (class_of k) w) ks ≡ a → (a && (ltb 2 c || eqb (length ks) c)) ≡ holds h ks
-  held a e = ap (λ (t : Bool). t && (ltb 2 c || eqb (length ks) c)) (sym e ∙ ap (λ (v : ℕ). every (λ k. eqb (class_of k) v) ks) ew)
-      ∙ sym (holds-is c ks l) ∙ ap (λ (g : Chain). holds g ks) ec
-
-  counted : {o : Option ℕ} → o ≡ cond (every (λ k. eqb (class_of k) w) ks) (Some (length ks)) None → (n : ℕ) → o ≡ Some n → (ltb 2 c || eqb n c) ≡ holds h ks
-  counted e n q =
-      let p = cond_some (every (λ k. eqb (class_of k) w) ks) (length ks) n (sym e ∙ q) in
-      ap (λ (m : ℕ). ltb 2 c || eqb m c) (sym p.1) ∙ held true p.0
-
-  other : {o : Option ℕ} → o ≡ cond (every (λ k. eqb (class_of k) w) ks) (Some (length ks)) None → o ≡ None → false ≡ holds h ks
-  other e q = held false (go (every (λ k. eqb (class_of k) w) ks) (sym e ∙ q))
+  none : o ≡ None → false ≡ holds h ks
+  none q = ap (λ (a : Bool). a && counts c (length ks)) (sym (go (every (allows c) ks) (sym m ∙ q))) ∙ sym (holds-both c ks) ∙ ap (λ (g : Chain). holds g ks) e
     where
       go : (b : Bool) → ◌≡◌ {A = Option ℕ} (cond b (Some (length ks)) None) None → b ≡ false
       go true z = absurd (none-some (length ks) (sym z))
       go false z = refl
 
-pub returns-then-first-i-eq0 : goal.returns-then-first-i-eq0
-unfolding chain_at
-returns-then-first-i-eq0 c = empty _ _ _ _ _ _ _ c.chain-c.ensures.0 c.chain-c.ensures.1 c.if-first-i-eq0.true
+-- the chain of the record's kind in the table is its number's
+chain-at : (ks : List Kind) (i : ℕ) (d : Kind) {c : Chain} → c ≡ (row_of (kind_number (get_or ks i d))).chain → i < length (numbers_of ks) → c ≡ (row_of (at (numbers_of ks) i)).chain
+chain-at ks i d e h = e ∙ ap (λ (k : ℕ). (row_of k).chain) (sym (number-at ks i d (omega (arith, length-map ks kind_number))))
 
 pub returns-in-Some : goal.returns-in-Some
 unfolding chain_at
-returns-in-Some c =
-    let e = c.chain-c.ensures in
-    counted _ _ _ _ e.0 e.1 c.wanted.ensures c.members.ensures _ c.in-Some.is
+returns-in-Some c = c.counts.ensures ∙ counted (chain-at c.args.t.now.kinds.now c.args.i _ c.chain-chain.ensures (omega (arith, c.args.t.now.linked.kinds_long, c.requires))) _ c.members.ensures _ c.in-Some.is
 
 pub returns-in-None : goal.returns-in-None
 unfolding chain_at
-returns-in-None c =
-    let e = c.chain-c.ensures in
-    other _ _ _ _ e.0 e.1 c.wanted.ensures c.members.ensures c.in-None.is
+returns-in-None c = none (chain-at c.args.t.now.kinds.now c.args.i _ c.chain-chain.ensures (omega (arith, c.args.t.now.linked.kinds_long, c.requires))) _ c.members.ensures c.in-None.is

@@ -1,6 +1,5 @@
 -- `checks::accepted` meets its contract. Assumes nothing.
 use native.Mathlib.Omega.{arith}
-use borrow.Author.Rules.{rules}
 use Rattle.sheet.specs.Accepted.{rows-most}
 use Rattle.checks.proofs.accepted.Goals as goal
 

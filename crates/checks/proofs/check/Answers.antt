@@ -1,9 +1,10 @@
-use Rattle.std.specs.Prelude.{◌≡◌, ◌≢◌, true, false, List, ℕ, ◌≤◌, length}
-use Rattle.std.proofs.Common.{sym, ap, ◌∙◌, arith, rules, length-take-le}
+use Rattle.std.specs.Prelude.{◌≤◌, length}
+use Rattle.std.proofs.Common.{sym, ◌∙◌, arith, length-take-le}
+use Rattle.std.proofs.lemmas.List.{length-map, take-map}
 use Rattle.std.proofs.lemmas.Result.{err_from_is_err_and}
 use Rattle.refusal.specs.Refusal.{answer-ok, answer-err, passed-on}
-use Rattle.sheet.specs.Checks.{length_ok, header_ok}
 use Rattle.sheet.specs.Accepted.{Sized, sized, checked-one, checked-two, checked-fault, checked-shape, tables-linked}
+use Rattle.sheet.specs.Numbers.{kind_number, numbers_of}
 use Rattle.checks.proofs.check.Goals as goal
 use Rattle.checks.proofs.check.Goals.{In_ok-decode}
 
@@ -14,6 +15,9 @@ module _ (c : In_ok-decode) where
 
   kinds_long : c.count-n.result ≤ length c.decode.new.kinds
   kinds_long = omega (arith, c.requires.0.enough size.long size.few, c.count-n.ensures.0, c.decode.auto.kinds)
+
+  numbers_long : c.count-n.result ≤ length (numbers_of c.decode.new.kinds)
+  numbers_long = omega (arith, kinds_long, length-map c.decode.new.kinds kind_number)
 
   first_long : c.count-n.result ≤ length c.decode.new.first
   first_long = omega (arith, c.requires.0.enough size.long size.few, c.count-n.ensures.0, c.requires.1, c.decode.auto.first)
@@ -71,7 +75,7 @@ shape-requires c =
     let k = length-take-le _ _ (kinds_long d) in
     let f = length-take-le _ _ (first_long d) in
     record {
-      links_in = tables-linked _ _ _ _ (sym c.length_ok.ensures ∙ c.if-not-length_ok.false) (sym c.header_ok.ensures ∙ c.if-not-header_ok.false) c.decode.ensures (answer-ok c.in_ok-decode.was) e (kinds_long d) (first_long d) (next_long d);
+      links_in = tables-linked _ _ _ _ (sym c.length_ok.ensures ∙ c.if-not-length_ok.false) (sym c.header_ok.ensures ∙ c.if-not-header_ok.false) c.decode.ensures (answer-ok c.in_ok-decode.was) e (numbers_long d) (first_long d) (next_long d);
       kinds_len = (k ∙ sym f, omega (arith, f, e, z.some), omega (arith, f, e, z.few));
     }
 
@@ -79,4 +83,4 @@ pub returns : goal.returns
 returns c =
     let d = (goal.at.returns c).In_ok-decode in
     checked-shape _ _ _ _ (sym c.length_ok.ensures ∙ c.if-not-length_ok.false) (sym c.header_ok.ensures ∙ c.if-not-header_ok.false) c.decode.ensures (answer-ok c.in_ok-decode.was) c.count-n.ensures.0
-    (kinds_long d) (first_long d) (next_long d) c.shape.ensures
+    (numbers_long d) (first_long d) (next_long d) (rw (sym (take-map kind_number c.count-n.result c.decode.new.kinds)) at c.shape.ensures)

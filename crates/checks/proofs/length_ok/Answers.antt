@@ -1,5 +1,4 @@
 -- `checks::length_ok` meets its contract. Assumes nothing.
-use borrow.Author.Rules.{rules}
 use borrow.Author.Tests.{le-leb, lt-leb}
 use Rattle.sheet.specs.Checks.{length_ok}
 use Rattle.checks.proofs.length_ok.Goals as goal

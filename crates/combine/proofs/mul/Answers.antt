@@ -5,4 +5,4 @@ use Rattle.combine.proofs.Folds.{fold-is}
 use Rattle.combine.proofs.mul.Goals as goal
 
 pub returns : goal.returns
-returns c = let e : c.fold.result ≡ fold ◌⊗◌ one c.args.xs.now = search rules in e ∙ fold-is ◌⊗◌ one c.args.xs.now
+returns c = let e : c.product.result ≡ fold ◌⊗◌ one c.args.xs.now = search rules in e ∙ fold-is ◌⊗◌ one c.args.xs.now

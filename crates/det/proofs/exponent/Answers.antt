@@ -33,7 +33,7 @@ read : (c : Start) → to_z w32 (of_z w32 (to_z w32 (field c) -ℤ pos 1023)) �
 read c = ap (λ (z : ℤ). to_z w32 (of_z w32 z)) (difference c) ∙ to_z-of_z w32 (sub_ℕ (field c) 1023) (difference-fits (field c) (view c).most)
 
 pub float_to_bits-field : goal.float_to_bits-field
-float_to_bits-field c = number c.args.x (held c) c.requires
+float_to_bits-field c = number _ c.requires
 
 pub overflow_cast-result : goal.overflow_cast-result
 overflow_cast-result c = record { sfits = small c }

@@ -5,7 +5,7 @@ use native.Mathlib.Omega.{arith}
 use lib.IntN.{ℤ, pos, negsuc, ◌+ℤ◌}
 use lib.Dec.{T, ltb, ltb→lt}
 use lib.Signed.{lt_z}
-use lib.Ieee.{binary64, of_int}
+use lib.Ieee.{Float, binary64, of_int}
 use mir.Syntax.{w32}
 use mir.Val.{SFits, of_z, to_z}
 use mir.ValLaws.{to_z-of_z}
@@ -43,9 +43,9 @@ unfolding ln_folded
 returns-then-m c =
     let k = c.args.k in
     let read = ap (λ (z : ℤ). to_z w32 (of_z w32 z)) (sum_is (goal.at.returns-then-m c).Then-m) ∙ to_z-of_z w32 (k +ℤ pos 1) (next_fits k c.ranges.k c.requires) in
-    c.ln_series.ensures ∙ ap (λ (z : ℤ). ln_series (c.args.m ⊗ half) (of_int binary64 z ⊕ c.args.scale)) read ∙ rw c.if-m.true
+    c.ln_series.ensures ∙ ap (λ (z : Float). ln_series (c.args.m ⊗ half) (z ⊕ c.args.scale)) (c.from.ensures ∙ ap (of_int binary64) read) ∙ rw c.if-m.true
 
 pub returns-else-m : goal.returns-else-m
 unfolding ln_folded
 returns-else-m c =
-    c.ln_series-else-m.ensures ∙ ap (λ (z : ℤ). ln_series c.args.m (of_int binary64 z ⊕ c.args.scale)) (to_z-of_z w32 c.args.k c.ranges.k) ∙ rw c.if-m.false
+    c.ln_series-else-m.ensures ∙ ap (λ (z : Float). ln_series c.args.m (z ⊕ c.args.scale)) (c.from-else-m.ensures ∙ ap (of_int binary64) (to_z-of_z w32 c.args.k c.ranges.k)) ∙ rw c.if-m.false

@@ -25,7 +25,7 @@ masked : (c : Start) → bit_or (bit_and (b c) (2 ^ 52 - 1)) (1023 * 2 ^ 52) ≡
 masked c = ap (λ (z : ℕ). bit_or z (1023 * 2 ^ 52)) (low-are 52 (b c)) ∙ or_shifted_r 1023 52 (b c % 2 ^ 52) (mod-lt (b c) (pow_pos 52))
 
 pub float_to_bits-result : goal.float_to_bits-result
-float_to_bits-result c = number c.args.x (held c) c.requires
+float_to_bits-result c = number _ c.requires
 
 pub float_from_bits-result : goal.float_from_bits-result
 float_from_bits-result c = subst (λ (n : ℕ). T (not (nan_bits binary64 n))) (sym (masked c)) (mantissa-number (b c % 2 ^ 52) (mod-lt (b c) (pow_pos 52)))

@@ -6,6 +6,7 @@ use Rattle.exp.proofs.Above.{Sum, quotient, minus-under-max, minus-over-min, min
 use Rattle.exp.proofs.exp_minus.Goals as goal
 use Rattle.exp.proofs.exp_minus.Goals.{Start}
 
+-- `quotient` is the one lemma of this function and of `exp_above`: each cites it in lines of its own, since each goal has a name of its own.
 view : (c : Start) → Sum (of_bits binary64 0x4330_0000_0000_0000) (mul binary64 c.args.x inv_ln2)
 view c = quotient c.args.x c.requires.least c.requires.most
 

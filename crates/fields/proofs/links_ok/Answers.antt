@@ -1,5 +1,4 @@
 -- `fields::links_ok` meets its contract. Assumes nothing.
-use borrow.Author.Rules.{rules}
 use Rattle.sheet.specs.Links.{links_at}
 use Rattle.fields.proofs.links_ok.Goals as goal
 

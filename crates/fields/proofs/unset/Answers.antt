@@ -8,7 +8,6 @@ use native.Mathlib.Nat.{add-zero}
 use native.Mathlib.Decide.{dec_lt}
 use lib.Bits.{bit_or, or_add_and, and_le_l, and_le_r}
 use lib.Dec.{eqb}
-use borrow.Author.Rules.{rules}
 use borrow.Author.Tests.{eqb-true, eq-eqb}
 use Rattle.sheet.specs.Bytes.{byte_at, u32_at, u64_at}
 use Rattle.sheet.specs.Checks.{all}
@@ -95,5 +94,6 @@ returns-then-m-gt6 c =
 
 pub returns : goal.returns
 returns c =
-    words c.args.r.now c.args.m _ _ c.if-m-gt6.false c.min.ensures c.min-2.ensures _ _ _ _
-    c.pair.ensures c.pair-2.ensures c.pair-3.ensures c.pair-4.ensures
+    let k = c.from-k.ensures in
+    words c.args.r.now c.args.m _ _ c.if-m-gt6.false (rw k at c.min.ensures) (rw k at c.min-2.ensures) _ _ _ _
+    (rw k at c.pair.ensures) c.pair-2.ensures c.pair-3.ensures c.pair-4.ensures

@@ -9,7 +9,7 @@ returns-then-option-lt3 c =
     let l = c.load_drive-s in
     let b = c.drive_block-t in
     λ ctl rs. rw (← c.option-option.ensures, lt-ltb _ _ c.if-option-lt3.true, ← c.from-shape.ensures)
-    (antialiased-ran ctl _ _ l.result c.requires.1 l.ensures b.ensures.0 (c.store_drive.ensures ∙ ap drive_cells b.ensures.1))
+    (antialiased-ran ctl _ _ l.result c.requires.0 l.ensures b.ensures.0 (c.store_drive.ensures ∙ ap drive_cells b.ensures.1))
 
 pub returns : goal.returns
 returns c =

@@ -1,8 +1,4 @@
-use mathlib.Core.Path.{◌≡◌}
-use Prim.Native.Nat.{◌+◌, ◌≤◌, ◌<◌}
 use native.Mathlib.Omega.{arith}
-use lib.ListN.{length}
-use Rattle.sheet.specs.Tree.{records, spine}
 use Rattle.layout.specs.Counts.{walk_turn, walk-done, walk-most}
 use Rattle.layout.proofs.chain_length.Goals as goal
 

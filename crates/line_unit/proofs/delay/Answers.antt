@@ -5,4 +5,4 @@ pub returns : goal.returns
 returns c =
     let b = c.delay_block-w in
     λ ctl. rw (← c.number-feedback.ensures)
-    (delay-ran ctl _ b.result c.requires.1 b.ensures.0 b.ensures.1)
+    (delay-ran ctl _ b.result c.requires.0 b.ensures.0 b.ensures.1)

@@ -3,7 +3,7 @@ use Rattle.line_unit.proofs.reverb.Goals as goal
 pub reverb_lines-requires : goal.reverb_lines-requires
 reverb_lines-requires c =
     let l = c.reverb_lens_apart-lens in
-    (c.requires.0, rw l.ensures.0 c.requires.3, rw l.ensures.0 c.requires.2)
+    (rw l.ensures.0 c.requires.2, rw l.ensures.0 c.requires.1)
 
 pub returns : goal.returns
 returns c =

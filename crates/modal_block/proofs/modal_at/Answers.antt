@@ -1,10 +1,5 @@
-use Rattle.std.proofs.Common.{◌≡◌, ◌+◌, List, sym, subst, ◌∙◌, arith}
-use Rattle.std.specs.Prelude.{Float}
-use Rattle.std.specs.Float.{nan}
-use native.Mathlib.Nat.{le_refl}
-use Rattle.block.specs.Loop.{Going}
-use Rattle.modal_block.specs.Modal.{modal_step}
-use Rattle.modal_block.specs.Groups.{part-is, group-start, group-cells, group-turn}
+use Rattle.std.proofs.Common.{◌≡◌, arith}
+use Rattle.modal_block.specs.Groups.{part-is, group-start, group-end, group-turn}
 use Rattle.modal_block.proofs.modal_at.Goals as goal
 
 pub loop-j-init : goal.loop-j-init
@@ -22,8 +17,7 @@ returns g c =
     let a = c.args in
     let N = g.row.N in
     let e : c.loop-j.j ≡ N = omega arith in (
-      λ xs cs h.
-          let cells = c.modes-wet.ensures.1 ∙ group-cells xs cs a.mix a.n a.k N c.copy_from_slice.new.self h (part-is a.out.now a.k N c.copy_from_slice.ensures.after) N (le_refl N) in
-          subst (λ (u : List Float). Going nan (modal_step xs a.mix a.n) cs xs (a.k + N) c.loop-j.out u) (sym cells) (rw e at (c.loop-j.invariant xs cs h)),
+      λ xs cs h. group-end xs cs a.mix a.n a.k N c.copy_from_slice.new.self h (part-is a.out.now a.k N c.copy_from_slice.ensures.after) c.modes-wet.ensures.1
+          (rw e at (c.loop-j.invariant xs cs h)),
       c.modes-wet.ensures.2,
     )

@@ -1,5 +1,4 @@
 use Rattle.std.proofs.Common.{◌≡◌, ◌+◌, ◌*◌, ◌<◌, ◌≤◌, length, replicate, refl, sym, ap, ◌∙◌, arith}
-use Rattle.std.specs.Float.{nan}
 use native.Mathlib.Nat.{le_refl}
 use Rattle.float.specs.Single.{◌⊕◌, zero}
 use Rattle.proc.specs.declared.Mode.{Mode}
@@ -15,7 +14,7 @@ loop-k-init g c =
     (ap (λ n. replicate n zero) lx ∙ sym (sums-start x c.args.cells.now), sym (ap (λ r. r.1) (modes-start x c.args.cells.now)), refl)
 
 pub loop-j-init : goal.loop-j-init
-loop-j-init g c = going_start nan _ _ _
+loop-j-init g c = going_start _ _ _ _
 
 pub loop-j-preserved : goal.loop-j-preserved
 unfolding mode_turn
@@ -24,7 +23,7 @@ loop-j-preserved g c =
     let lw : l.j < length c.loop-k.wet = omega (arith, ap length c.loop-k.invariant.0, length-sums c.args.x c.args.cells.now c.loop-k.k) in
     let t = l.invariant.todo l.j (le_refl l.j) in
     let e = c.step.ensures in
-    going-turn nan _ _ _ l.invariant lw (λ i. t i ⊕ (e i).0) (λ i. (e i).1)
+    going-turn _ _ _ _ l.invariant lw (λ i. t i ⊕ (e i).0) (λ i. (e i).1)
 
 pub loop-k-preserved : goal.loop-k-preserved
 loop-k-preserved g c =
@@ -33,7 +32,7 @@ loop-k-preserved g c =
     let p = c.put_mode.ensures in
     let lw : length l.wet ≤ c.loop-j.j = omega (arith, ap length l.invariant.0, length-sums x c.args.cells.now l.k) in
     let fits : 5 * l.k + 4 < length l.cells = omega (arith, c.loop-k-test.true, l.invariant.2, c.requires) in
-    let e = going_end nan _ _ _ c.loop-j.invariant lw in
+    let e = going_end _ _ _ _ c.loop-j.invariant lw in
     let m = c.mode_at-mode.ensures in
     let r = modes-turn x c.args.cells.now l.k fits l.invariant.0 l.invariant.1
     (e.0 ∙ ap (λ (m : Mode). given (mode_turn x l.wet) m (length l.wet)) m) (e.1 ∙ ap (λ (m : Mode). after (mode_turn x l.wet) m (length l.wet)) m) in

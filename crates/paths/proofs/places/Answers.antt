@@ -1,48 +1,25 @@
-use mathlib.Core.Path.{refl}
-use native.Mathlib.Omega.{arith}
-use lib.ListN.{length-set}
-use lib.Seq.{get_or-set_same}
-use Rattle.layout.specs.Tables.{first_entry, next-entry}
+use Rattle.std.proofs.Common.{arith, length-set, get_or-set_same}
 use Rattle.paths.specs.Paths.{entry-small, places-turn, places-done}
 use Rattle.paths.proofs.places.Goals as goal
 
 pub loop-i-init : goal.loop-i-init
-loop-i-init c = (omega arith, refl, simp length-set (omega arith), λ e. get_or-set_same c.args.to.now 0 0 0 (omega arith), λ j d b l. absurd (omega arith))
-
-pub offset_bounds-to-f : goal.offset_bounds-to-f
-offset_bounds-to-f c =
-    omega (arith, first_entry c.args.sheet.now c.args.count c.requires.0 c.args.firsts.now c.requires.1 c.loop-i.i c.loop-i-test.true)
-
-pub bounds-to-f : goal.bounds-to-f
-bounds-to-f c =
-    omega (arith, first_entry c.args.sheet.now c.args.count c.requires.0 c.args.firsts.now c.requires.1 c.loop-i.i c.loop-i-test.true)
-
-pub bounds-to-i : goal.bounds-to-i
-bounds-to-i c = simp length-set (omega arith)
+loop-i-init c = (simp length-set (omega arith), λ e. get_or-set_same c.args.to.now 0 0 0 (omega (arith, c.args.links.now.listed.passed.some)), λ j d b l. absurd (omega arith))
 
 pub overflow_add-to : goal.overflow_add-to
 overflow_add-to c =
     let l = c.loop-i in
-    omega (arith, entry-small c.args.sheet.now c.args.count c.requires.0 l.i _ l.to c.loop-i-test.true l.invariant.2 (c.requires.1.at l.i c.loop-i-test.true) l.invariant.3 l.invariant.4)
-
-pub offset_bounds-to-n : goal.offset_bounds-to-n
-offset_bounds-to-n c =
-    omega (arith, next-entry c.args.sheet.now c.args.count c.requires.0 c.args.nexts.now c.requires.2 c.loop-i.i c.loop-i-test.true)
-
-pub bounds-to-n : goal.bounds-to-n
-bounds-to-n c =
-    simp length-set (omega (arith, next-entry c.args.sheet.now c.args.count c.requires.0 c.args.nexts.now c.requires.2 c.loop-i.i c.loop-i-test.true))
+    let links = c.args.links.now in
+    omega (arith, entry-small links.sheet.now links.count links.listed.passed l.i _ l.to c.loop-i-test.true (omega arith) (links.listed.first_at.at l.i c.loop-i-test.true) l.invariant.1 l.invariant.2)
 
 pub loop-i-preserved : goal.loop-i-preserved
 loop-i-preserved c =
     let l = c.loop-i in
+    let links = c.args.links.now in
     let h = c.loop-i-test.true in
-    (omega arith, simp length-set (simp length-set at l.invariant.1), simp length-set l.invariant.2, λ e. absurd (omega arith), places-turn c.args.sheet.now c.args.count c.requires.0 l.i _ _ l.to h l.invariant.2 (c.requires.1.at l.i h) (c.requires.2.at l.i h) l.invariant.4)
-
-pub shape_of-to : goal.shape_of-to
-shape_of-to c = simp length-set (simp length-set at c.loop-i.invariant.1)
+    (simp length-set l.invariant.0, λ e. absurd (omega arith), places-turn links.sheet.now links.count links.listed.passed l.i _ _ l.to h (omega arith) (links.listed.first_at.at l.i h) (links.listed.next_at.at l.i h) l.invariant.2)
 
 pub returns : goal.returns
 returns c =
     let l = c.loop-i in
-    places-done c.args.sheet.now c.args.count c.requires.0 l.i l.to (omega arith) l.invariant.2 l.invariant.4
+    let links = c.args.links.now in
+    places-done links.sheet.now links.count links.listed.passed l.i l.to (omega arith) (omega arith) l.invariant.2

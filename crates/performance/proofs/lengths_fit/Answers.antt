@@ -1,4 +1,4 @@
-use Rattle.std.specs.Prelude.{◌≡◌, ◌+◌, ◌-◌, ◌≤◌, length}
+use Rattle.std.specs.Prelude.{length}
 use Rattle.std.proofs.Common.{arith}
 use Rattle.performance.specs.List.{length_at, fit_none, fit-turn, fit-over, fit_all}
 use Rattle.performance.proofs.lengths_fit.Goals as goal

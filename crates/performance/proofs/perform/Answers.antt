@@ -1,9 +1,17 @@
-use Rattle.std.specs.Prelude.{◌≡◌, ℕ, ◌+◌, ◌-◌, ◌≤◌, ◌<◌, get_or, length, take, drop}
-use Rattle.std.proofs.Common.{sym, ap, ap₂, ◌∙◌, arith, rules, length-drop, length-take-le}
+use Rattle.std.specs.Prelude.{◌≡◌, refl, Result, Ok, Err, ℕ, ◌+◌, ◌-◌, ◌≤◌, get_or, length, take, drop}
+use Rattle.std.specs.Result.{result_unwrap_or}
+use Rattle.std.proofs.Common.{sym, ap, ap₂, ◌∙◌, arith, length-drop, length-take-le}
+use Rattle.control.specs.declared.Controls.{Controls}
+use Rattle.refusal.specs.declared.Refusal.{Refusal}
 use Rattle.machine.specs.Machine.{state}
+use Rattle.calls.specs.Calls.{controls_of}
 use Rattle.performance.specs.declared.Call.TheVariants.{Fill}
 use Rattle.performance.specs.List.{play-start, play-turn, play-end, play-room, call_at, length_at, call-took, took_of}
 use Rattle.performance.proofs.perform.Goals as goal
+
+unwrapped : (c : Controls) (r : Result Controls Refusal) → result_unwrap_or r c ≡ controls_of c r
+unwrapped c (Ok d) = refl
+unwrapped c (Err e) = refl
 
 pub loop-k-init : goal.loop-k-init
 loop-k-init c = play-start _ _ _ _ _ _ _ _ _
@@ -32,11 +40,12 @@ loop-k-preserved c =
     let h : n ≤ length (drop l.d l.out) = simp length-drop (omega (arith, l.invariant.outs)) in
     let lp : length (take n (drop l.d l.out)) ≡ n = length-take-le n (drop l.d l.out) h in
     let o = rw (z, e) at c.one_call-r.ensures in
+    let u = c.unwrap_or-c.ensures ∙ unwrapped l.c c.one_call-r.result in
     let t = call-took c.args.sheet.now (get_or c.args.calls.now l.k (Fill 0)) (state l.c l.cells l.regs l.scr) in
-    rw (z, e, c.after-c.ensures, c.answer-a.ensures)
+    rw (z, e, u, c.answer-a.ensures)
     (play-turn c.args.sheet.now (call_at c.args.calls.now) (length_at c.args.calls.now) _ _ _ _ _ _ l.c _ _ _ _ _ l.d l.k _ _ _ _ _ _ c.took-d.result
     l.invariant c.loop-k-test.true w o (c.one_call-r.auto.out ∙ ap (λ (j : ℕ). length (take j (drop l.d l.out))) (z ∙ e) ∙ lp)
-    (c.took-d.ensures.0 ∙ ap₂ took_of (c.answer-a.ensures ∙ o.answer) e ∙ sym t) (rw e at c.took-d.ensures.1))
+    (c.took-d.ensures.0 ∙ ap₂ took_of o.answer e ∙ sym t) (rw e at c.took-d.ensures.1))
 
 pub returns : goal.returns
 returns c =

@@ -1,4 +1,3 @@
-use Rattle.std.specs.Prelude.{◌≡◌, length}
 use Rattle.performance.specs.List.{Playing, call_at, length_at}
 use Rattle.performance.proofs.perform.Given as goal
 

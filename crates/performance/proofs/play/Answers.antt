@@ -1,4 +1,3 @@
-use Rattle.std.proofs.Common.{sym, ◌∙◌}
 use Rattle.performance.specs.List.{fitting, performed, not-performed}
 use Rattle.performance.proofs.play.Goals as goal
 

@@ -1,10 +1,10 @@
-use Rattle.std.proofs.Common.{sym, ◌∙◌}
+use Rattle.std.proofs.Common.{sym, ◌∙◌, rules}
 use Rattle.std.proofs.lemmas.Result.{err_from_is_err_and, IfOk-at_ok}
 use Rattle.refusal.specs.Refusal.{answer-ok, answer-err, passed-on}
 use Rattle.tables.specs.Tables.{Made}
 use Rattle.prepare.specs.declared.Ready.{Ready}
 use Rattle.machine.proofs.Laws.{room-enough, room-passed}
-use Rattle.calls.specs.Calls.{cuts-refused, cuts-all, planned_of}
+use Rattle.calls.specs.Calls.{cuts-refused, cuts-all}
 use Rattle.player.proofs.cutoff_by.Goals as goal
 
 pub returns-in_err-p : goal.returns-in_err-p
@@ -12,14 +12,14 @@ returns-in_err-p g c =
     let p = err_from_is_err_and c.from_residual.result c.from_residual.ensures.1 in
     cuts-refused c.args.sheet.now c.args.x _ _ _ _ (answer-err p.1) (passed-on c.in_err-p.was p.1 p.2 ∙ c.prepare.ensures.answer)
 
-pub new-plan-requires : goal.new-plan-requires
-new-plan-requires g c = planned_of (IfOk-at_ok (λ (y : Ready). Made c.args.sheet.now y.count c.prepare.new.t) c.in_ok-p.was c.prepare.ensures.made)
+pub plan-requires : goal.plan-requires
+plan-requires g c = (search rules, IfOk-at_ok (λ (y : Ready). Made c.args.sheet.now y.count c.prepare.new.t) c.in_ok-p.was c.prepare.ensures.made)
 
 pub set_cutoff-requires : goal.set_cutoff-requires
 set_cutoff-requires g c =
     let p = c.prepare.ensures in
     let r = room-enough c.args.sheet.now _ _ _ (room-passed c.args.sheet.now _ _ _ (sym p.answer ∙ answer-ok c.in_ok-p.was)).1 in
-    rw c.new-plan.ensures r.cells
+    rw c.plan.ensures r.cells
 
 pub returns : goal.returns
-returns g c = cuts-all c.args.sheet.now c.args.x _ _ _ _ (sym c.prepare.ensures.answer ∙ answer-ok c.in_ok-p.was) (rw c.new-plan.ensures at c.set_cutoff.ensures)
+returns g c = cuts-all c.args.sheet.now c.args.x _ _ _ _ (sym c.prepare.ensures.answer ∙ answer-ok c.in_ok-p.was) (rw c.plan.ensures at c.set_cutoff.ensures)

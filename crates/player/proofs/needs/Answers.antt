@@ -7,6 +7,7 @@ use Rattle.tables.specs.declared.Measured.{Measured}
 use Rattle.tables.specs.Answer.{refused, needed_by, needed_of, needed-refused}
 use Rattle.player.proofs.needs.Goals as goal
 
+-- `rows-most` is the lemma that the callers share; each cites it in one line, since each goal has a name of its own.
 pub measure-requires : goal.measure-requires
 measure-requires c = (omega arith, (rows-most _ _ (omega arith), omega arith))
 

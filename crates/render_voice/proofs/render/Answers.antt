@@ -5,7 +5,7 @@ use Rattle.render_voice.proofs.Laws.{built}
 use Rattle.render_voice.proofs.render.Goals as goal
 
 pub count-samples-requires : goal.count-samples-requires
-count-samples-requires g c = (built c.in_ok-c.ensures refl, c.requires)
+count-samples-requires g c = (built c.in_ok-c.ensures refl, c.requires.bound)
 
 pub rate-requires : goal.rate-requires
 rate-requires g c = omega (arith, (accepted c.args.sheet.now (built c.in_ok-c.ensures refl)).long)

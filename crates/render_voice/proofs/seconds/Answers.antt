@@ -1,4 +1,4 @@
-use Rattle.std.proofs.Common.{rules, ◌≡◌, ◌+◌, ◌-◌, ◌*◌, ◌≤◌, ◌<◌, ◌∙◌, sym, ap, ℕ, List, length, drop, get_or, true, arith}
+use Rattle.std.proofs.Common.{rules, ◌≡◌, ◌+◌, ◌-◌, ◌*◌, ◌≤◌, ◌<◌, ◌∙◌, sym, ap, ℕ, List, length, drop, get_or, true}
 use Rattle.std.proofs.Math.ListN.{drop_of_length-le}
 use Rattle.render_voice.specs.Seconds.{is_digit, seconds_from, seconds_of}
 use Rattle.render_voice.proofs.Laws.{seconds-digit, seconds-other, seconds-high, seconds-end}

@@ -3,7 +3,7 @@ use Prim.Native.Nat.{◌+◌, ◌<◌}
 use native.Mathlib.Omega.{arith}
 use lib.ListN.{length-set}
 use Rattle.block.specs.Bank.{units, units-turn}
-use Rattle.reverb_block.specs.Lines.{line-inside, line-next, line-again, allpass-turn}
+use Rattle.reverb_block.specs.Lines.{line-next, line-again, allpass-turn}
 use Rattle.reverb_block.proofs.allpasses.Goals as goal
 
 pub loop-k-init : goal.loop-k-init
@@ -22,30 +22,3 @@ returns c =
     let l = c.loop-k in
     let e : l.k ≡ 4 = omega arith in
     (λ ss. rw e at (l.invariant.0 ss), line-again l.invariant.1 c.requires.start)
-
-pub overflow_add-w : goal.overflow_add-w
-overflow_add-w c = let i = line-inside c.loop-k.invariant.1 (omega arith) in omega arith
-
-pub offset_bounds-lines-w : goal.offset_bounds-lines-w
-offset_bounds-lines-w c = let i = line-inside c.loop-k.invariant.1 (omega arith) in omega arith
-
-pub bounds-lines-w : goal.bounds-lines-w
-bounds-lines-w c = let i = line-inside c.loop-k.invariant.1 (omega arith) in omega arith
-
-pub offset_bounds-lines-w-in-loop-k : goal.offset_bounds-lines-w-in-loop-k
-offset_bounds-lines-w-in-loop-k c = let i = line-inside c.loop-k.invariant.1 (omega arith) in omega arith
-
-pub bounds-lines-w-in-loop-k : goal.bounds-lines-w-in-loop-k
-bounds-lines-w-in-loop-k c = let i = line-inside c.loop-k.invariant.1 (omega arith) in omega arith
-
-pub next_place-requires : goal.next_place-requires
-next_place-requires c = let i = line-inside c.loop-k.invariant.1 (omega arith) in omega arith
-
-pub overflow_add-from : goal.overflow_add-from
-overflow_add-from c = let i = line-inside c.loop-k.invariant.1 (omega arith) in omega arith
-
-pub shape_of-lines : goal.shape_of-lines
-shape_of-lines c = omega (arith, c.loop-k.invariant.1.long)
-
-pub shape_of-places : goal.shape_of-places
-shape_of-places c = omega (arith, c.loop-k.invariant.1.placed.places)

@@ -1,6 +1,5 @@
 use mathlib.Core.Path.{◌≡◌}
 use mathlib.Core.List.{◌++◌}
-use lib.ListN.{length}
 use Rattle.reverb_block.specs.Reverb as bank
 use Rattle.reverb_block.specs.Reverb.{line_from}
 use Rattle.reverb_block.specs.Lines.{LineAt}
@@ -8,4 +7,4 @@ use Rattle.reverb_block.proofs.combs.Given as goal
 
 abbrev pub invariant-loop-k : goal.invariant-loop-k
 invariant-loop-k l =
-    ((l.wet, (l.lines ++ l.stores, l.places)) ≡ bank.combs l.feedback l.lens l.x (l.initial.lines ++ l.initial.stores, l.initial.places) l.k) × LineAt l.lens l.places l.lines l.from l.k × (length l.stores ≡ 6)
+    ((l.wet, (l.lines ++ l.stores, l.places)) ≡ bank.combs l.feedback l.lens l.x (l.initial.lines ++ l.initial.stores, l.initial.places) l.k) × LineAt l.lens l.places l.lines l.from l.k

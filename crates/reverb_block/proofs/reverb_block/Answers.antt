@@ -2,24 +2,19 @@ use mathlib.Core.Path.{◌≡◌, refl, sym, ap, ◌∙◌}
 use mathlib.Core.List.{List, ◌++◌}
 use Prim.Native.Nat.{ℕ, ◌-◌}
 use native.Mathlib.Omega.{arith}
-use lib.ListN.{length, take, drop, length-append, length-take, length-drop}
+use lib.ListN.{length, take, drop, length-append, length-take}
 use lib.Ieee.{Float}
 use Rattle.block.specs.Iterate.{given, after}
 use Rattle.reverb_block.specs.Reverb.{line_from, reverb_step}
 use Rattle.reverb_block.specs.Lines.{parts, together}
 use Rattle.reverb_block.proofs.reverb_block.Goals as goal
 
-pub slice_bounds-reverb_lines-end-3 : goal.slice_bounds-reverb_lines-end-3
-slice_bounds-reverb_lines-end-3 c = simp length-take (omega arith)
-
 pub reverb_lines-requires : goal.reverb_lines-requires
 unfolding line_from
 reverb_lines-requires c =
     let p = c.requires in
-    let s = c.copy_from_slice-3.ensures.after in (
-      record { placed = rw (s, c.copy_from_slice-2.ensures.after) p.0; long = rw s (simp length-take (omega (arith, p.1))); start = refl },
-      rw c.copy_from_slice.ensures.after (simp (length-take, length-drop) (omega (arith, p.1))),
-    )
+    let s = c.copy_from_slice-3.ensures.after in
+    record { placed = rw (s, c.copy_from_slice-2.ensures.after) p.0; long = rw s (simp length-take (omega (arith, p.1))); start = refl }
 
 pub copy_from_slice-requires-5 : goal.copy_from_slice-requires-5
 copy_from_slice-requires-5 c = c.requires.0.places ∙ sym c.reverb_lines.ensures.2.placed.places
@@ -43,5 +38,5 @@ returns c =
       r.0 ∙ (λ i. given (step (s i)) (t i, w i) (length a.out.now)),
       (λ i. (back i, c.copy_from_slice-5.ensures.after i)) ∙ r.1 ∙ (λ i. after (step (s i)) (t i, w i) (length a.out.now)),
       rw c.copy_from_slice-5.ensures.after (rw s at r.2.placed),
-      ap (λ (l : List Float). length l) back ∙ length-append ls ss ∙ omega (arith, long, r.3, p.1),
+      ap (λ (l : List Float). length l) back ∙ length-append ls ss ∙ omega (arith, long, p.1),
     )

@@ -1,12 +1,12 @@
 use mathlib.Core.Path.{◌≡◌, refl, sym, ap, ◌∙◌}
-use mathlib.Core.Bool.{true}
-use Prim.Native.Nat.{◌-◌, ◌≤◌, ◌<◌}
+use Prim.Native.Nat.{◌≤◌, ◌<◌}
 use native.Mathlib.Omega.{arith}
 use lib.ListN.{length, length-set}
 use borrow.Author.Rules.{rules}
 use borrow.Author.Tests.{eq-eqb, ne_eqb}
+-- Invariants.antt names some of these too: it states the invariant, and here the laws about it are cited.
 use Rattle.sheet.specs.Checks.{all}
-use Rattle.sheet.specs.Links.{at, Counted, once_at}
+use Rattle.sheet.specs.Links.{at, once_at}
 use Rattle.sheet.specs.Laws.{all-suc, all-fails}
 use Rattle.sheet.specs.LinkLaws.{count-start, count-first, count_next, count_turn, once-turn, first_below, next-below}
 use Rattle.shape.proofs.once_in.Goals as goal

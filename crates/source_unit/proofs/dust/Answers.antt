@@ -18,5 +18,5 @@ returns c =
     let ep = c.dust_chance-chance.ensures ∙ ap (λ x. dust_chance x c.args.srf) c.number.ensures in
     let ed = c.dust_decay-decay.ensures ∙ ap (λ x. dust_decay x c.args.srf) c.number-2.ensures in
     λ m. rw (← ep, ← ed) (ran-part (λ (u : Dust). (u.y ∷ [], u.rng.state ∷ [])) (dust_step chance decay) (dust_unit chance decay) m [] (dust_at (c.args.cells.now, c.args.regs.now)) (λ k l u. refl)
-    (λ i. (written nan 1 c.args.cells.now c.requires.1 i, written 0 1 c.args.regs.now c.requires.2 i)) e.0
-    (λ i. ((one-stored c.args.cells.now c.requires.1 ∙ ap (λ (u : Dust). u.y ∷ []) e.1) i, (one-stored c.args.regs.now c.requires.2 ∙ ap (λ (u : Dust). u.rng.state ∷ []) e.1) i)))
+    (λ i. (written nan 1 c.args.cells.now c.requires.0 i, written 0 1 c.args.regs.now c.requires.1 i)) e.0
+    (λ i. ((one-stored c.args.cells.now c.requires.0 ∙ ap (λ (u : Dust). u.y ∷ []) e.1) i, (one-stored c.args.regs.now c.requires.1 ∙ ap (λ (u : Dust). u.rng.state ∷ []) e.1) i)))

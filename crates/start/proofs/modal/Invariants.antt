@@ -8,7 +8,7 @@ use Rattle.start.proofs.modal.Given as goal
 
 abbrev pub invariant-loop-j : goal.invariant-loop-j
 invariant-loop-j l =
-    (l.j < l.count) × (length l.own ≡ length l.initial.own) × (l.at + 5 * length (spine (records l.sheet l.j)) ≡ length l.own) × (length l.own ≤ 1280) × (take l.at l.own ++ chain_start l.sheet l.j ≡ chain_start l.sheet l.f)
+    (l.j < l.plan.count) × (length l.own ≡ length l.initial.own) × (l.at + 5 * length (spine (records l.plan.sheet.now l.j)) ≡ length l.own) × (length l.own ≤ 1280) × (take l.at l.own ++ chain_start l.plan.sheet.now l.j ≡ chain_start l.plan.sheet.now l.f)
 
 abbrev pub decreases-loop-j : goal.decreases-loop-j
-decreases-loop-j l = length (spine (records l.sheet l.j))
+decreases-loop-j l = length (spine (records l.plan.sheet.now l.j))

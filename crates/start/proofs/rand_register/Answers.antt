@@ -4,4 +4,4 @@ use Rattle.tree.specs.Lists.{one-stored}
 use Rattle.start.proofs.rand_register.Goals as goal
 
 pub returns : goal.returns
-returns c = one-stored c.args.own.now c.requires.1 ∙ ap (λ d. d.word ∷ []) c.rand_draws-d.ensures
+returns c = one-stored c.args.own.now c.requires ∙ ap (λ d. d.word ∷ []) c.rand_draws-d.ensures

@@ -1,10 +1,4 @@
-use native.Mathlib.Omega.{arith}
-use lib.ListN.{length-set}
-use Rattle.start_values.specs.Written.{zeroed}
 use Rattle.start_values.proofs.compress.Goals as goal
 
-pub bounds-own-3 : goal.bounds-own-3
-bounds-own-3 c = simp length-set (omega arith)
-
 pub returns : goal.returns
-returns c = rw (c.follower_coeffs-f.ensures, c.powf-makeup.ensures, c.number-3.ensures, c.number-2.ensures, c.number.ensures, zeroed c.args.own.now c.fill_block.ensures c.requires.1)
+returns c = rw (c.copy_from_slice.ensures.after, c.follower_coeffs-f.ensures, c.powf-makeup.ensures, c.number-3.ensures, c.number-2.ensures, c.number.ensures)

@@ -18,4 +18,4 @@ returns c =
     let e : n ≡ voices_of c.args.r.now = c.voices-n.ensures.0 ∙ ap (λ b. max 1 (min b 16)) c.bits.ensures in
     let phases = (c.run_block.ensures (λ k s. (start_phase n k, s)) (λ k s r h p. search rules)).0 in
     let ratios = (c.run_block-2.ensures (λ k s. (start_ratio n cents k, s)) (λ k s r h p. search rules)).0 in
-    halves n c.args.own.now _ _ _ _ (c.requires.1 ∙ ap (λ n. 2 * n) (sym e)) phases ratios ∙ rw (e, c.number-cents.ensures)
+    halves n c.args.own.now _ _ _ _ (c.requires ∙ ap (λ n. 2 * n) (sym e)) phases ratios ∙ rw (e, c.number-cents.ensures)

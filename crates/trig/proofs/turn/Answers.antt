@@ -1,5 +1,6 @@
 use mathlib.Core.Path.{◌≡◌, refl, ap, ◌∙◌}
 use Prim.Native.Nat.{ℕ, zero, suc}
+use native.Mathlib.Omega.{arith}
 use lib.Ieee.{Float, neg}
 use Rattle.trig.specs.Trig.{turned, cos_poly}
 use Rattle.trig.proofs.turn.Goals as goal
@@ -25,6 +26,4 @@ unfolding turned
 returns-in-2 c = rw (c.in-2.is, c.sin_poly-in-2.ensures)
 
 pub returns-in_default : goal.returns-in_default
-returns-in_default c =
-    let n = c.in_default.in_default-own.rest in
-    ap neg c.cos_poly-in_default.ensures ∙ rest c.args.k c.args.a n.0.0.1 n.0.1 n.1
+returns-in_default c = ap neg c.cos_poly-in_default.ensures ∙ rest c.args.k c.args.a (λ e. omega arith) (λ e. omega arith) (λ e. omega arith)

@@ -2,5 +2,5 @@
 use Rattle.std.proofs.Common.{◌≡◌, ◌+◌, ◌≤◌}
 use Rattle.vectors.proofs.after_case.Given as goal
 
-abbrev pub invariant-loop-which : goal.invariant-loop-which
-invariant-loop-which g l = (l.after.answers ≡ l.initial.after.answers + l.which) × (l.after.differ ≤ l.after.answers)
+abbrev pub invariant-loop-index : goal.invariant-loop-index
+invariant-loop-index g l = (l.after.answers ≡ l.initial.after.answers + l.index) × (l.after.differ ≤ l.after.answers)

@@ -4,7 +4,7 @@ use Rattle.sheet.specs.Record.{kind}
 use Rattle.layout.specs.Built.{role}
 use Rattle.layout.proofs.Roles.{is-built}
 use Rattle.units.specs.Values.{node-unit}
-use Rattle.walk.specs.Walk.{voiced, leaf-is}
+use Rattle.walk.specs.Walk.{voiced, parts-of, leaf-is}
 use Rattle.walk.specs.Leaf.{leafed-silent}
 use Rattle.walk.proofs.leaf.Goals as goal
 
@@ -37,6 +37,7 @@ own-requires c =
         second_long = omega (arith, R.second_buffer, c.values.auto.w);
       },
       c.values.ensures.sound,
+      parts-of (record { inside = c.requires.2; built_is = b }) c.row-row.ensures c.values.ensures.sound,
     )
 
 pub returns-then-row : goal.returns-then-row

@@ -1,50 +1,20 @@
 use mathlib.Core.Path.{◌∙◌}
 use native.Mathlib.Omega.{arith}
 use lib.ListN.{length-take, length-drop}
-use Rattle.walk.specs.Walk.{voiced, parts-of, lent_of, own_is, own-sound}
+use Rattle.walk.specs.Walk.{voiced, lent_of, own_is, own-sound}
 use Rattle.walk.proofs.own.Goals as goal
-
-pub slice_bounds-play-count : goal.slice_bounds-play-count
-slice_bounds-play-count c =
-    let w = parts-of c.requires.0.owned c.row-row.ensures c.requires.1 in
-    omega (arith, w.cup, w.cin, w.rup, w.rin)
-
-pub slice_bounds-play-start : goal.slice_bounds-play-start
-slice_bounds-play-start c =
-    let w = parts-of c.requires.0.owned c.row-row.ensures c.requires.1 in
-    omega (arith, w.cup, w.cin, w.rup, w.rin)
-
-pub slice_bounds-play-end : goal.slice_bounds-play-end
-slice_bounds-play-end c =
-    let w = parts-of c.requires.0.owned c.row-row.ensures c.requires.1 in
-    omega (arith, w.cup, w.cin, w.rup, w.rin)
-
-pub slice_bounds-play-count-2 : goal.slice_bounds-play-count-2
-slice_bounds-play-count-2 c =
-    let w = parts-of c.requires.0.owned c.row-row.ensures c.requires.1 in
-    omega (arith, w.cup, w.cin, w.rup, w.rin)
-
-pub slice_bounds-play-start-2 : goal.slice_bounds-play-start-2
-slice_bounds-play-start-2 c =
-    let w = parts-of c.requires.0.owned c.row-row.ensures c.requires.1 in
-    omega (arith, w.cup, w.cin, w.rup, w.rin)
-
-pub slice_bounds-play-end-2 : goal.slice_bounds-play-end-2
-slice_bounds-play-end-2 c =
-    let w = parts-of c.requires.0.owned c.row-row.ensures c.requires.1 in
-    omega (arith, w.cup, w.cin, w.rup, w.rin)
 
 pub play-requires : goal.play-requires
 play-requires c =
-    let R = c.row-row.ensures in
     let l = c.requires.0 in
-    let w = parts-of l.owned R c.requires.1 in
-    (lent_of (voiced c.args.plan.now.made.passed) l.owned R c.requires.1, rw R.kind_is l.unit_is, own-sound _ _ _ c.requires.1 c.args.i _ _ _ _ l.owned.inside l.owned.built_is R.cells_is R.registers_is w.cn w.rn, l.first_long, l.second_long, l.pitched, l.early)
+    let w = c.requires.2 in
+    let R = w.rowed in
+    (lent_of (voiced c.args.plan.now.made.passed) l.owned w c.requires.1, rw R.kind_is l.unit_is, own-sound _ _ _ c.requires.1 c.args.i _ _ _ _ l.owned.inside l.owned.built_is R.cells_is R.registers_is w.cn w.rn, l.first_long, l.second_long, l.pitched, l.early)
 
 pub returns : goal.returns
 returns c =
-    let R = c.row-row.ensures in
-    let w = parts-of c.requires.0.owned R c.requires.1 in
+    let w = c.requires.2 in
+    let R = w.rowed in
     let p = c.play in
     own_is _ c.args.i c.args.c _ _ _ _ _ _ _ _ _ _ _ c.requires.0.owned.built_is R.cells_is R.cells_end_is R.registers_is R.registers_end_is w.cin w.rin
     (p.auto.cells ∙ simp (length-take, length-drop) (omega (arith, w.cin)))

@@ -1,14 +1,10 @@
-use Rattle.std.proofs.Common.{◌≡◌, ◌+◌, ◌-◌, ◌*◌, refl, ◌∙◌, ap, ◌++◌, drop, length, get_or, arith}
+use Rattle.std.proofs.Common.{◌≡◌, ◌+◌, ◌-◌, ◌*◌, ◌∙◌, ap, ◌++◌, drop, length, get_or, arith}
 use Rattle.std.specs.Float.{nan}
 use borrow.Rule.Slice.PartMut.{put_mid}
 use lib.Seq.{take_all}
 use Rattle.wav.specs.Wav.{little_endian, pcm16_of, bytes_of}
 use Rattle.wav.proofs.Laws.{le-two, bytes-more}
 use Rattle.wav.proofs.encode.Goals as goal
-
-pub loop-k-init : goal.loop-k-init
-unfolding bytes_of
-loop-k-init c = refl
 
 pub loop-k-preserved : goal.loop-k-preserved
 loop-k-preserved c =

@@ -1,4 +1,3 @@
-use Rattle.std.proofs.Common.{rules}
 use Rattle.control.specs.Moves.{fresh}
 use Rattle.block_bench.proofs.values.block_arp.Goals as goal
 

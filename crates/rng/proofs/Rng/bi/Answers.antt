@@ -1,4 +1,4 @@
-use Rattle.std.proofs.Common.{◌/◌, ◌^◌, shr_lt, rules}
+use Rattle.std.proofs.Common.{◌/◌, ◌^◌, shr_lt}
 use Rattle.rng.specs.Random.{unit_of, bi_of}
 use Rattle.rng.proofs.Halves.{twice-drawn}
 use Rattle.rng.proofs.Rng.bi.Goals as goal

@@ -1,6 +1,5 @@
 -- A record that is not built owns nothing.
 use mathlib.Core.Path.{sym, ◌∙◌}
-use native.Mathlib.Omega.{arith}
 use Rattle.layout.specs.Counts.{cells-built}
 use Rattle.layout.proofs.Roles.{is-built}
 use Rattle.unit.specs.Start.{start_cells}
@@ -9,10 +8,9 @@ use Rattle.state.proofs.begin.record_cells.Goals as goal
 
 pub cells-requires : goal.cells-requires
 cells-requires c =
-    let m = c.args.plan.now.made in
     let R = c.requires.1 in
     let b = is-built _ (sym R.built_is ∙ c.if-row.true) in
-    (m.passed, rw m.passed.count c.requires.0, m.next_at, omega (arith, m.passed.count, c.requires.2), R.kind_is, b, c.requires.3 ∙ cells-built c.args.plan.now.sheet.now c.args.i b)
+    (c.requires.0, c.requires.2, R.kind_is, b, c.requires.3 ∙ cells-built c.args.plan.now.sheet.now c.args.i b)
 
 pub returns-then-row : goal.returns-then-row
 returns-then-row c = c.cells.ensures ∙ rw (← c.requires.1.built_is, c.if-row.true)

@@ -1,6 +1,5 @@
-use Rattle.std.proofs.Common.{◌≡◌, sym, ap, ◌∙◌, ◌+◌, ◌-◌, ◌*◌, arith}
+use Rattle.std.proofs.Common.{◌≡◌, sym, ap, ◌∙◌, ◌+◌, ◌-◌, arith}
 use Rattle.sheet.specs.Record.{number_of}
-use Rattle.sheet.specs.Laws.{rest}
 use Rattle.value_unit.specs.Laws.{step_at, step-here, step-turn}
 use Rattle.value_unit.proofs.Chain.step_at.Goals as goal
 
@@ -16,5 +15,5 @@ pub returns : goal.returns
 returns c =
     let l = c.loop in
     let z : c.args.k - l.counter ≡ 0 = omega arith in
-    c.number.ensures ∙ ap (λ r. number_of r 0) (rest c.args.self.sheet.now (24 + 40 * l.j)) ∙ step-here c.args.self.sheet.now c.args.self.count c.args.self.passed l.j l.invariant.0 (omega (arith, l.invariant.1))
+    c.number.ensures ∙ ap (λ r. number_of r 0) c.at.ensures ∙ step-here c.args.self.sheet.now c.args.self.count c.args.self.passed l.j l.invariant.0 (omega (arith, l.invariant.1))
     ∙ ap (step_at c.args.self.sheet.now l.j) (sym z) ∙ l.invariant.2

@@ -1,0 +1,7 @@
+-- `sheet::Record::number` meets its contract. Assumes nothing.
+use mathlib.Core.Path.{ap, ◌∙◌}
+use lib.Ieee.{binary32, of_bits}
+use Rattle.sheet.proofs.Record.number.Goals as goal
+
+pub returns : goal.returns
+returns c = c.from_bits.ensures ∙ ap (of_bits binary32) c.bits.ensures

@@ -1,8 +1,0 @@
--- `sheet::number` meets its contract. Assumes nothing.
-use mathlib.Core.Path.{ap, ◌∙◌}
-use lib.Ieee.{binary32, of_bits}
-use borrow.Author.Rules.{rules}
-use Rattle.sheet.proofs.number.Goals as goal
-
-pub returns : goal.returns
-returns c = c.from_bits.ensures ∙ ap (of_bits binary32) c.bits.ensures
