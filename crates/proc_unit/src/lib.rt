@@ -53,7 +53,8 @@ fn processor(
     regs: &mut [u64],
 )
     requires { (sr ≤ 192000) × Fits sr proc cells.old regs.old × Room proc (length out.old) (length v.old) (length w.old) c.position }
-    ensures { Ran (processor_unit r.now sr (length cells.old / 5) (proc_number proc)) c (buffers_of (values_of (proc_number proc)) v.old w.old) out.old cells.old regs.old out.new cells.new regs.new }
+    ensures ran { Ran (processor_unit r.now sr (length cells.old / 5) (proc_number proc)) c (buffers_of (values_of (proc_number proc)) v.old w.old) out.old cells.old regs.old out.new cells.new regs.new }
+    ensures held { 1 ≤ values_of (proc_number proc) → v.new ≡ v.old }
 {
     match proc {
         Proc::Gain => proc_block::gain_block(out, v),
@@ -84,7 +85,8 @@ pub fn play(
     requires own { values_of (proc_number proc) ≡ 0 → (own_ok sheet.now i (cells.old, regs.old) ≡ true) × (c.position + length out.old < 2 ^ 64) }
     requires first { length out.old ≤ length v.old }
     requires second { 1 ≤ values_of (proc_number proc) → length out.old ≤ length w.old }
-    ensures { Ran (kind_unit sheet.now i) c (buffers_of (values_of (proc_number proc)) v.old w.old) out.old cells.old regs.old out.new cells.new regs.new }
+    ensures ran { Ran (kind_unit sheet.now i) c (buffers_of (values_of (proc_number proc)) v.old w.old) out.old cells.old regs.old out.new cells.new regs.new }
+    ensures held { 1 ≤ values_of (proc_number proc) → v.new ≡ v.old }
 {
     let r = Record::at(sheet, i);
     processor(&r, sheet::rate(sheet), proc, c, out, v, w, cells, regs);

@@ -12,5 +12,5 @@ processor-requires c =
       room c.args.proc (length c.args.out.now) (length c.args.v.now) (length c.args.w.now) c.args.c.position p.first p.second (λ z. (p.own z).1),
     )
 
-pub returns : goal.returns
-returns c = rw (unit-of _ c.requires.lent c.at-r.ensures c.rate.ensures) c.processor.ensures
+pub returns-clause-ran : goal.returns-clause-ran
+returns-clause-ran c = rw (unit-of _ c.requires.lent c.at-r.ensures c.rate.ensures) c.processor.ensures.ran

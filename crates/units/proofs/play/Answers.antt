@@ -64,7 +64,7 @@ returns-in-Biquad c = rw (c.in-Biquad.is, filter-values c.in-Biquad.filter) (c.p
 
 pub returns-in-Proc : goal.returns-in-Proc
 unfolding kind_number
-returns-in-Proc c = rw c.in-Proc.is c.play-in-Proc.ensures
+returns-in-Proc c = rw c.in-Proc.is c.play-in-Proc.ensures.ran
 
 pub returns-in-Fold : goal.returns-in-Fold
 unfolding kind_number
