@@ -1,4 +1,5 @@
-// The samples of a fill, with the buffers that they are worked out in.
+// The samples of a fill, with the buffers that they are worked out in. The lent memory is slices of its own, as `walk` tells, and what is asked of it is
+// what `streaming` asks.
 #![tactic(auto)]
 
 ghost use Rattle.std.specs.Prelude.{◌≡◌, true, length, ◌≤◌};

@@ -1,6 +1,6 @@
 // Casts. Functions whose names differ at the end only have no code in common: each pair of types has an instruction, or a function of std, of
-// its own. Several ensure one fact, which is the point: from a smaller type, or a smaller range, the same number is found sooner; and
-// `leaf_bench` exports each to C.
+// its own. Several ensure one fact, which is the point: from a smaller type, or a smaller range, the same number is found
+// sooner.
 #![tactic(auto)]
 
 ghost use Rattle.std.specs.Prelude.{◌≡◌, ◌/◌, ◌%◌, ◌^◌, ◌<◌, true, false, not, T, pos};

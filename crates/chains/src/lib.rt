@@ -19,7 +19,8 @@ pub struct Linked<'a> {
 }
 
 // How many members the chain of record i has, where each may stand in it. The loop goes along links, of which 0 is none, so it counts no index; an
-// iterator over them would be longer than the three loops that go so.
+// iterator over them would be longer than the three loops that go so. Here and below i is asked to be a record: an index type of one sheet would say so at
+// greater length.
 fn members(chain: Chain, t: &Linked<'_>, i: usize) -> Option<usize>
     requires { i < length t.now.first.now }
     ensures { result ≡ cond (every (allows (chain_of chain)) (along_in (numbers_of t.now.kinds.now) t.now.first.now t.now.next.now i)) (Some (length (along_in (numbers_of t.now.kinds.now) t.now.first.now t.now.next.now i))) None }
@@ -36,12 +37,15 @@ fn members(chain: Chain, t: &Linked<'_>, i: usize) -> Option<usize>
     Some(count)
 }
 
-// 6, of the chain of record i.
+// 6, of the chain of record i. Half of all records have none, which is told without a walk.
 fn chain_ok(t: &Linked<'_>, i: usize) -> bool
     requires { i < length t.now.first.now }
     ensures { result ≡ chain_in (numbers_of t.now.kinds.now) t.now.first.now t.now.next.now i }
 {
     let chain = t.kinds[i].chain();
+    if t.first[i] == 0 {
+        return chain.counts(0);
+    }
     match members(chain, t, i) {
         Some(count) => chain.counts(count),
         None => false,

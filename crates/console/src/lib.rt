@@ -52,6 +52,7 @@ mod tests {
     #[test]
     fn reads_until_full_or_ended(rt: HostRuntime) -> io::Result<()> {
         let mut input: &[u8] = b"abcde";
+        // A test lends a buffer of known length, so an array is plainer than a `Vec`.
         let mut buf = [0u8; 4];
         assert_eq!(rt; read_full(&mut input, &mut buf)?, 4);
         assert_eq!(rt; buf, *b"abcd");
@@ -81,6 +82,7 @@ mod tests {
     #[test]
     fn failed_read_is_an_error(rt: HostRuntime) {
         let mut input = Broken { gave: false };
+        // A test's buffer, of known length, as above.
         let mut buf = [0u8; 4];
         assert!(rt; read_full(&mut input, &mut buf).is_err());
     }

@@ -3,7 +3,7 @@ use std::io;
 use std::io::{Read, Write};
 use vectors::{AnswerFile, double, single};
 
-pub fn double_sections<R: Read, W: Write>(file: &mut AnswerFile<R, W>) -> io::Result<()> {
+pub(crate) fn double_sections<R: Read, W: Write>(file: &mut AnswerFile<R, W>) -> io::Result<()> {
     file.section(|x| trig::sin(double(x[0])))?;
     file.section(|x| trig::cos(double(x[0])))?;
     file.section(|x| exp::exp(double(x[0])))?;
@@ -19,7 +19,7 @@ pub fn double_sections<R: Read, W: Write>(file: &mut AnswerFile<R, W>) -> io::Re
     file.section(|x| trig::cos_poly(double(x[0])))
 }
 
-pub fn single_sections<R: Read, W: Write>(file: &mut AnswerFile<R, W>) -> io::Result<()> {
+pub(crate) fn single_sections<R: Read, W: Write>(file: &mut AnswerFile<R, W>) -> io::Result<()> {
     file.section(|x| trig::sinf(single(x[0])))?;
     file.section(|x| trig::cosf(single(x[0])))?;
     file.section(|x| exp::expf(single(x[0])))?;

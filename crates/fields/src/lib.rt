@@ -3,12 +3,13 @@
 
 ghost use Rattle.std.specs.Prelude.{◌≡◌, ◌+◌, ◌-◌, ◌*◌, ◌≤◌, eqb};
 ghost use Rattle.sheet.specs.Bytes.{byte_at, u64_at};
-ghost use Rattle.sheet.specs.Checks.{all, link_ok};
+ghost use Rattle.sheet.specs.Checks.{all, record_ok, link_ok};
 ghost use Rattle.sheet.specs.Links.{links_at};
-ghost use Rattle.fields.specs.Whole.{Whole};
+ghost use Rattle.sheet.specs.Numbers.{Numbered};
+ghost use Rattle.sheet.specs.Record.{kind_of};
 
 use sheet::Record;
-use sheet::kinds::Kind;
+use sheet::kinds::Entry;
 
 // Numbers k and k + 1 of the record as one word.
 fn pair(r: &Record, k: usize) -> u64
@@ -31,18 +32,28 @@ fn unset(r: &Record, m: u8) -> bool
     (pair(r, k) | pair(r, (k + 2).min(6)) | pair(r, (k + 4).min(6)) | pair(r, 6)) == 0
 }
 
-// 3, of one record: its kind, or none where it fails.
-pub fn record_kind(r: &Record) -> Option<Kind>
-    ensures { Whole r.now result }
+// 3, of one record, by the entry of its kind: none where its number is no kind's.
+pub fn record_ok(r: &Record, e: Option<Entry>) -> bool
+    requires { Numbered (kind_of r.now) e }
+    ensures { result ≡ record_ok r.now }
 {
-    let kind = r.kind()?;
-    if kind.options() <= r.option() {
-        return None;
+    let Some(
+        Entry {
+            kind: _,
+            options,
+            numbers,
+        },
+    ) = e
+    else {
+        return false;
+    };
+    if options <= r.option() {
+        return false;
     }
     if sheet::half(r.bytes(), 6) != 0 {
-        return None;
+        return false;
     }
-    unset(r, kind.numbers()).then_some(kind)
+    unset(r, numbers)
 }
 
 // 4, of one link of record i, and of its two. Some record is there, so that a link of 0 is below n too, and each clause

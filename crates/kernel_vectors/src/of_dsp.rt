@@ -25,7 +25,7 @@ fn next_word(state: u64) -> [u64; 2] {
     [rng.state, word]
 }
 
-pub fn generators<R: Read, W: Write>(file: &mut AnswerFile<R, W>) -> io::Result<()> {
+pub(crate) fn generators<R: Read, W: Write>(file: &mut AnswerFile<R, W>) -> io::Result<()> {
     file.section(|x| rng::splitmix_mix(x[0]))?;
     file.section(|x| next_word(x[0]))?;
     file.section(|x| drawn(x, |r| r.unit()))?;
@@ -39,7 +39,7 @@ pub fn generators<R: Read, W: Write>(file: &mut AnswerFile<R, W>) -> io::Result<
     })
 }
 
-pub fn coefficients<R: Read, W: Write>(file: &mut AnswerFile<R, W>) -> io::Result<()> {
+pub(crate) fn coefficients<R: Read, W: Write>(file: &mut AnswerFile<R, W>) -> io::Result<()> {
     file.section(|x| {
         let [t, a, d, s, r, punch, rel_start, ..] = singles(x);
         envelope::adsr_env(Adsr { a, d, s, r, punch }, t, rel_start)

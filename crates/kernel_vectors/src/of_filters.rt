@@ -17,7 +17,7 @@ fn kind_of(n: u64, gain: f32) -> FilterKind {
     }
 }
 
-pub fn coefficients(x: Operands) -> [f32; 5] {
+pub(crate) fn coefficients(x: Operands) -> [f32; 5] {
     let r = Response {
         kind: kind_of(x[0], single(x[1])),
         q: single(x[3]),
@@ -27,7 +27,7 @@ pub fn coefficients(x: Operands) -> [f32; 5] {
     [c.b0, c.b1, c.b2, c.a1, c.a2]
 }
 
-pub fn step(words: Operands) -> [f32; 12] {
+pub(crate) fn step(words: Operands) -> [f32; 12] {
     let [
         _,
         gain,

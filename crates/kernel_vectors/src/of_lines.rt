@@ -22,7 +22,7 @@ fn line_len(k: u64, sr: u32) -> u64
     lines::reverb_lens(sr)[k as usize]
 }
 
-pub fn lengths<R: Read, W: Write>(file: &mut AnswerFile<R, W>) -> io::Result<()> {
+pub(crate) fn lengths<R: Read, W: Write>(file: &mut AnswerFile<R, W>) -> io::Result<()> {
     file.section(|x| lines::delay_line_len(single(x[0]), rate(x[1])))?;
     file.section(|x| lines::chorus_base(rate(x[0])))?;
     file.section(|x| lines::chorus_swing(single(x[0]), rate(x[1])))?;

@@ -88,7 +88,7 @@ fn compress(x: Operands) -> [f32; 2] {
 
 // ---- in the order of the file
 
-pub fn effects<R: Read, W: Write>(file: &mut AnswerFile<R, W>) -> io::Result<()> {
+pub(crate) fn effects<R: Read, W: Write>(file: &mut AnswerFile<R, W>) -> io::Result<()> {
     file.section(|x| proc::gain(single(x[0]), single(x[1])))?;
     file.section(of_filters::step)?;
     file.section(delay)?;
@@ -98,7 +98,7 @@ pub fn effects<R: Read, W: Write>(file: &mut AnswerFile<R, W>) -> io::Result<()>
     file.section(|x| line_step::reverb_mix(single(x[0]), single(x[1]), single(x[2])))
 }
 
-pub fn dynamics<R: Read, W: Write>(file: &mut AnswerFile<R, W>) -> io::Result<()> {
+pub(crate) fn dynamics<R: Read, W: Write>(file: &mut AnswerFile<R, W>) -> io::Result<()> {
     file.section(mode_step)?;
     file.section(drive_step)?;
     file.section(|x| { drive_step::drive_plain(drive_shape(x), single(x[1]), single(x[2])) })?;

@@ -6,7 +6,7 @@ use std::io;
 use std::io::{Read, Write};
 use vectors::{AnswerFile, single};
 
-pub fn curves<R: Read, W: Write>(file: &mut AnswerFile<R, W>) -> io::Result<()> {
+pub(crate) fn curves<R: Read, W: Write>(file: &mut AnswerFile<R, W>) -> io::Result<()> {
     file.section(|x| osc::poly_blep(single(x[0]), single(x[1])))?;
     file.section(|x| osc::osc(Shape::from(choice(x[0])), single(x[1])))?;
     file.section(of_filters::coefficients)?;

@@ -45,7 +45,7 @@ fn super_voice(x: Operands) -> [f32; 2] {
     [y, next]
 }
 
-pub fn oscillators<R: Read, W: Write>(file: &mut AnswerFile<R, W>) -> io::Result<()> {
+pub(crate) fn oscillators<R: Read, W: Write>(file: &mut AnswerFile<R, W>) -> io::Result<()> {
     file.section(|x| phased(x, source::sine))?;
     file.section(square)?;
     file.section(|x| phased(x, source::saw))?;
@@ -115,7 +115,7 @@ fn env(x: Operands) -> f32 {
     unpitched::env(adsr(x), single(x[5]), single(x[6]), whole(x[7], x[8]))
 }
 
-pub fn noises<R: Read, W: Write>(file: &mut AnswerFile<R, W>) -> io::Result<()> {
+pub(crate) fn noises<R: Read, W: Write>(file: &mut AnswerFile<R, W>) -> io::Result<()> {
     file.section(|x| unpitched::impact_width(single(x[0]), single(x[1])))?;
     file.section(|x| unpitched::impact_norm(single(x[0]), x[1]))?;
     file.section(impact)?;

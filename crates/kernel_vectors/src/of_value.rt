@@ -72,7 +72,7 @@ fn rand_out(x: Operands) -> f32 {
     s.out()
 }
 
-pub fn values<R: Read, W: Write>(file: &mut AnswerFile<R, W>) -> io::Result<()> {
+pub(crate) fn values<R: Read, W: Write>(file: &mut AnswerFile<R, W>) -> io::Result<()> {
     file.section(slide)?;
     file.section(lfo)?;
     file.section(|x| value::lfo_phase(single(x[0]), single(x[1]), whole(x[2], x[3])))?;

@@ -1,5 +1,5 @@
 // What the words of a case are beside one float: halves of a number, all floats at once, numbers in a range.
-ghost use Rattle.std.specs.Prelude.{◌≡◌, ◌+◌, ◌*◌, ◌%◌, ◌≤◌, ◌<◌, min};
+ghost use Rattle.std.specs.Prelude.{◌≡◌, [], ◌∷◌, ◌+◌, ◌*◌, ◌%◌, ◌/◌, ◌≤◌, ◌<◌, min};
 
 use dsl::Adsr;
 use vectors::{Operands, low, single};
@@ -12,12 +12,14 @@ pub fn whole(l: u64, h: u64) -> u64
 }
 
 // The low half of a number, and the high one.
-pub fn halves(word: u64) -> [u64; 2] {
+pub fn halves(word: u64) -> [u64; 2]
+    ensures { result ≡ word % 4294967296 ∷ word / 4294967296 ∷ [] }
+{
     [u64::from(low(word)), word >> 32]
 }
 
 // All words as floats.
-pub fn singles(x: Operands) -> [f32; 20] {
+pub(crate) fn singles(x: Operands) -> [f32; 20] {
     x.map(|word| single(word))
 }
 
@@ -44,7 +46,7 @@ pub fn below(x: u64, n: u64) -> u64
 }
 
 // The envelope of the first five words.
-pub fn adsr(x: Operands) -> Adsr {
+pub(crate) fn adsr(x: Operands) -> Adsr {
     let [a, d, s, r, punch, ..] = singles(x);
     Adsr { a, d, s, r, punch }
 }

@@ -3,7 +3,7 @@ use std::io;
 use std::io::{Read, Write};
 use vectors::{AnswerFile, double, low, single};
 
-pub fn float_sections<R: Read, W: Write>(file: &mut AnswerFile<R, W>) -> io::Result<()> {
+pub(crate) fn float_sections<R: Read, W: Write>(file: &mut AnswerFile<R, W>) -> io::Result<()> {
     file.section(|x| rounding::floor(single(x[0])))?;
     file.section(|x| rounding::trunc(single(x[0])))?;
     file.section(|x| rounding::round(single(x[0])))?;
@@ -24,7 +24,7 @@ pub fn float_sections<R: Read, W: Write>(file: &mut AnswerFile<R, W>) -> io::Res
     file.section(|x| double(x[0]))
 }
 
-pub fn cast_sections<R: Read, W: Write>(file: &mut AnswerFile<R, W>) -> io::Result<()> {
+pub(crate) fn cast_sections<R: Read, W: Write>(file: &mut AnswerFile<R, W>) -> io::Result<()> {
     file.section(|x| cast::u64_to_f32(x[0]))?;
     file.section(|x| cast::u32_to_f32(low(x[0])))?;
     file.section(|x| cast::u32_to_f64(low(x[0])))?;
@@ -36,7 +36,7 @@ pub fn cast_sections<R: Read, W: Write>(file: &mut AnswerFile<R, W>) -> io::Resu
     file.section(|x| cast::f64_to_i64(double(x[0])).cast_unsigned())
 }
 
-pub fn last_sections<R: Read, W: Write>(file: &mut AnswerFile<R, W>) -> io::Result<()> {
+pub(crate) fn last_sections<R: Read, W: Write>(file: &mut AnswerFile<R, W>) -> io::Result<()> {
     file.section(|x| sqrt::sqrt(single(x[0])))?;
     file.section(|x| word::wrapping_mul(x[0], x[1]))
 }

@@ -9,8 +9,8 @@ use refusal::Refusal;
 use std::io::{Read, Write};
 use std::{fmt, io};
 
-// The larger of the two; a NaN is passed over. std's `max` promises less: it leaves open which of two zeros it gives; and
-// `float::max` would give the same here by more tests, since a peak is no NaN and no zero with a sign.
+// The larger of the two; a NaN is passed over. The peak's definition is over this choice, and keeps its meaning: of two zeros std's `max` leaves open which
+// it gives, and `float::max` tells them apart, which is another function.
 fn higher(p: f32, x: f32) -> f32
     ensures { result ≡ higher_of p x }
 {

@@ -2,14 +2,13 @@
 use Rattle.std.specs.Prelude.{◌≡◌, Bool, true, false, cond, List, [], ◌++◌, eqb, length, take, drop, replicate, Float}
 use Rattle.std.proofs.Math.Path.{refl, ap}
 use Rattle.std.proofs.Common.{ap₂, ◌∙◌, append_assoc, eqb-true, length-drop, drop_at}
-use Prim.Native.Nat.{ℕ, zero, suc, ◌-◌, ◌≤◌, ◌<◌}
+use Prim.Native.Nat.{ℕ, zero, suc, ◌≤◌, ◌<◌}
 use native.Mathlib.Omega.{arith}
 use Rattle.std.proofs.Math.Decide.{ℕ_discrete}
 use Rattle.std.proofs.lemmas.Bool.{eqb-false}
 use Rattle.std.proofs.Math.ListN.{length-append}
 use Rattle.std.proofs.lemmas.List.{length-replicate}
 use Rattle.std.proofs.Math.Seq.{take_at}
-use Rattle.tree.specs.Comm.{M}
 use Rattle.tree.specs.Flat.{seg, own}
 use Rattle.control.specs.Moves.{fresh}
 use Rattle.sheet.specs.Record.{count_of}
@@ -24,7 +23,7 @@ use Rattle.unit.specs.Own.{Own, silence}
 use Rattle.unit.specs.State.{own_ok, record_ok, rings_ok}
 use Rattle.unit.specs.Start.{start_cells, start_registers}
 use Rattle.unit.specs.Laws.{start-cells, start-registers, start-ok}
-use Rattle.machine.specs.Machine.{State, state, room_check, Answered, cleared}
+use Rattle.machine.specs.Machine.{State, room_check, Answered}
 use Rattle.machine.proofs.Laws.{SameLengths, room-passed, room-enough}
 use Rattle.machine.specs.Valid.{room_for, valid_ok}
 use Rattle.machine.specs.Build.{begun, brought_cells, brought_registers, build_of, joined, started_cells, started_registers}

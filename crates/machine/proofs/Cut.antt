@@ -6,13 +6,12 @@ use native.Mathlib.Omega.{arith}
 use Rattle.std.proofs.Math.Dec.{eqb-suc-zero}
 use Rattle.std.proofs.lemmas.List.{length-replicate}
 use Rattle.tree.specs.Comm.{M, ret, bind}
-use Rattle.control.specs.Moves.{pitch_moved, bend_moved}
 use Rattle.sheet.specs.Record.{count_of}
 use Rattle.layout.specs.Needs.{scratch_from}
 use Rattle.unit.specs.Own.{silence}
-use Rattle.machine.specs.Machine.{State, state, room_check, fill_check, samples, Answered, cleared, rested, fill_of, scaled, cutoff_of, Call, fill, pitch, bend, cutoff, call, machine}
+use Rattle.machine.specs.Machine.{State, state, room_check, fill_check, samples, Answered, cleared, rested, fill_of, cutoff_of, Call, fill, pitch, bend, cutoff, call, machine}
 use Rattle.machine.proofs.Samples.{samples-add, with_scratch, samples-with-scratch}
-use Rattle.machine.specs.Cut.{Move, accepted, asks, bend_to, cutoff_to, made, move_at, move_to, moved_at, pitch_to, plan, plan_from, total}
+use Rattle.machine.specs.Cut.{Move, asks, bend_to, cutoff_to, made, move_at, move_to, moved_at, pitch_to, plan, plan_from, total}
 
 unfoldable perform : List ℕ → List (ℕ × Move) → ℕ → ℕ → M State (List Float)
 perform s [] t e = samples s (e - t)

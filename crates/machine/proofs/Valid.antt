@@ -1,6 +1,6 @@
 -- A valid state stays valid: there is enough of each list, the position is at most 2^62, and what each record owns is sound, before and after every call.
 -- The laws up to the last part assume that the voice is valid and that each unit keeps its own part sound; the last part assumes nothing of an accepted sheet.
-use Rattle.std.specs.Prelude.{◌≡◌, Bool, cond, ◌&&◌, length, replicate, Float}
+use Rattle.std.specs.Prelude.{◌≡◌, Bool, cond, length, replicate, Float}
 use Rattle.std.proofs.Math.Path.{refl}
 use Rattle.std.proofs.Common.{sym, subst, ◌∙◌, arith}
 use Rattle.std.proofs.Math.Bool.{true, false}
@@ -25,7 +25,7 @@ use Rattle.unit.specs.Own.{Own, silence}
 use Rattle.unit.specs.Voice.{voice}
 use Rattle.unit.specs.State.{own_ok, record_ok, rings_ok}
 use Rattle.unit.specs.Sound.{OwnSound, UnitsKeep, units-keep, voice-valid}
-use Rattle.machine.specs.Machine.{State, room_ok, sound_ok, fill_check, samples, Answered, is_filter, scaled, Call, fill, call, machine}
+use Rattle.machine.specs.Machine.{State, sound_ok, fill_check, samples, Answered, is_filter, scaled, Call, fill, call, machine}
 use Rattle.machine.proofs.Samples.{block-samples, samples-position}
 use Rattle.machine.specs.Cut.{Move, pitch_to, bend_to, cutoff_to, move_to}
 use Rattle.machine.proofs.Cut.{Outcome, refusal, filling, moving, outcome}

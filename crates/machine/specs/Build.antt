@@ -1,29 +1,13 @@
 -- Build: the call that starts a voice in lent memory. It answers like the others, and what it leaves is valid.
-use Rattle.std.specs.Prelude.{◌≡◌, Bool, true, false, cond, List, [], ◌++◌, eqb, length, take, drop, replicate, Float}
-use Rattle.std.proofs.Math.Path.{refl, ap}
-use Rattle.std.proofs.Common.{ap₂, ◌∙◌, append_assoc, eqb-true, length-drop, drop_at}
-use Prim.Native.Nat.{ℕ, zero, suc, ◌-◌, ◌≤◌, ◌<◌}
-use native.Mathlib.Omega.{arith}
-use Rattle.std.proofs.Math.Decide.{ℕ_discrete}
-use Rattle.std.proofs.lemmas.Bool.{eqb-false}
-use Rattle.std.proofs.Math.ListN.{length-append}
-use Rattle.std.proofs.lemmas.List.{length-replicate}
-use Rattle.std.proofs.Math.Seq.{take_at}
+use Rattle.std.specs.Prelude.{cond, List, [], ◌++◌, eqb, length, drop, Float}
+use Prim.Native.Nat.{ℕ, zero, suc}
 use Rattle.tree.specs.Comm.{M}
-use Rattle.tree.specs.Flat.{seg, own}
 use Rattle.control.specs.Moves.{fresh}
 use Rattle.sheet.specs.Record.{count_of}
-use Rattle.sheet.specs.Checks.{sum}
-use Rattle.sheet.specs.Laws.{all_of}
 use Rattle.layout.specs.Built.{role, is_built}
-use Rattle.layout.specs.Needs.{cells, registers, cells_from, registers_from, scratch_from}
-use Rattle.layout.specs.Counts.{layout_of}
-use Rattle.unit.specs.Own.{Own, silence}
-use Rattle.unit.specs.State.{own_ok, record_ok, rings_ok}
+use Rattle.layout.specs.Needs.{cells_from, registers_from}
 use Rattle.unit.specs.Start.{start_cells, start_registers}
-use Rattle.unit.specs.Laws.{start-cells, start-registers, start-ok}
 use Rattle.machine.specs.Machine.{State, state, room_check, Answered, cleared}
-use Rattle.machine.specs.Valid.{room_for, valid_ok}
 
 -- ---- what a voice starts with
 -- the lists f 0 up to f (n - 1), one after the other

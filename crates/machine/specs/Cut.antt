@@ -1,16 +1,9 @@
 -- The cut theorem: what the machine plays and leaves depends on the accepted moves, on how many samples were made before each, and on how many are made in all; not on how the samples are cut into fills, nor on what was refused.
-use Rattle.std.specs.Prelude.{◌≡◌, refl, Bool, true, false, cond, ℕ, zero, suc, ◌+◌, ◌-◌, ◌≤◌, eqb, length, drop, replicate, Float}
-use Rattle.std.proofs.Common.{sym, ap, ap₂, ◌∙◌, add-zero, eqb-true, drop_at}
-use mathlib.Core.List.{List, [], ◌∷◌, ◌++◌, append_assoc}
-use native.Mathlib.Omega.{arith}
-use Rattle.std.proofs.Math.Dec.{eqb-suc-zero}
-use Rattle.std.proofs.lemmas.List.{length-replicate}
-use Rattle.tree.specs.Comm.{M, ret, bind}
+use Rattle.std.specs.Prelude.{Bool, cond, ℕ, ◌+◌, eqb, Float}
+use mathlib.Core.List.{List, [], ◌∷◌, ◌++◌}
 use Rattle.control.specs.Moves.{pitch_moved, bend_moved}
 use Rattle.sheet.specs.Record.{count_of}
-use Rattle.layout.specs.Needs.{scratch_from}
-use Rattle.unit.specs.Own.{silence}
-use Rattle.machine.specs.Machine.{State, state, room_check, fill_check, samples, Answered, cleared, rested, fill_of, scaled, cutoff_of, Call, fill, pitch, bend, cutoff, call, machine}
+use Rattle.machine.specs.Machine.{State, state, Answered, scaled, Call, fill, pitch, bend, cutoff, call}
 
 -- ---- what a list of calls comes to
 pub data Move : Type 0 where

@@ -11,8 +11,7 @@ ghost use Rattle.block.specs.Loop.{Going};
 ghost use Rattle.modal_block.specs.Modal.{mode_at, put_mode, modal_step};
 ghost use Rattle.modal_block.specs.Modes.{modes_step};
 
-// Mode k of a bank: five cells, a1 a2 b0 y1 y2. Here and in put_mode a slice pattern would have to refuse the lengths that the
-// contract rules out.
+// Mode k of a bank: five cells, a1 a2 b0 y1 y2. A slice pattern would have to refuse the lengths that the contract rules out.
 fn mode_at(cells: &[f32], k: usize) -> proc::Mode
     requires { 5 * k + 4 < length cells.now }
     ensures { result ≡ mode_at cells.now k }
@@ -27,6 +26,7 @@ fn mode_at(cells: &[f32], k: usize) -> proc::Mode
     }
 }
 
+// Only what moves is stored: an array of the two, made to be copied, is no plainer than two stores.
 fn put_mode(cells: &mut [f32], k: usize, m: proc::Mode)
     requires { 5 * k + 4 < length cells.old }
     ensures { (cells.new ≡ put_mode cells.old k m) × (length cells.new ≡ length cells.old) }

@@ -25,8 +25,8 @@ pub struct Row {
     pub scratch: usize,
 }
 
-// An accepted sheet with the tables that the checks leave. What plays reads them a row at a time, through `row` alone: how they lie in memory
-// is known here only. Who reads one asks that i is a record, and who makes one says of which sheet: a type of indices of one sheet would say
+// An accepted sheet with the tables that the checks leave. What plays reads them a row at a time, through `row`, but for `nexts`, by which
+// chains are gone along: how the others lie in memory is known here only. Who reads one asks that i is a record, and who makes one says of which sheet: a type of indices of one sheet would say
 // both at greater length.
 #[derive(Clone, Copy)]
 pub struct Plan<'a> {

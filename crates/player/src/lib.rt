@@ -30,10 +30,8 @@ pub fn needs(sheet: &[u8]) -> Result<Needs, Refusal>
 
 // ---- fill
 
-// The checks by lent tables, and the samples. The tables are made by the callers: of a struct as long as N and M say, a function that is proved for every
-// N would owe that it fits in memory.
-fn fill_by<const N: usize, const M: usize>(
-    t: &mut Tables<N, M>,
+// With tables for N records in its own frame, of which a short fill has no large ones.
+fn fill_with<const N: usize, const M: usize>(
     sheet: &[u8],
     c: Controls,
     out: &mut [f32],
@@ -41,41 +39,12 @@ fn fill_by<const N: usize, const M: usize>(
     regs: &mut [u64],
     scr: &mut [f32],
 ) -> Result<Controls, Refusal>
-    requires { Rows sheet.now N × (N < M) }
+    requires { Rows sheet.now N × (N < M) × (M ≤ 257) }
     ensures { Fills sheet.now c out.old cells.old regs.old scr.old (answer_of result) (controls_of c result) out.new cells.new regs.new scr.new }
 {
-    let p = prepare::prepare(sheet, cells.len(), regs.len(), scr.len(), t)?;
-    calls::play(sheet, p.count, p.scratch, t, c, out, cells, regs, scr)
-}
-
-// The two are apart, so that a short fill has no large tables among its locals.
-fn fill_short(
-    sheet: &[u8],
-    c: Controls,
-    out: &mut [f32],
-    cells: &mut [f32],
-    regs: &mut [u64],
-    scr: &mut [f32],
-) -> Result<Controls, Refusal>
-    requires { length sheet.now ≤ 984 }
-    ensures { Fills sheet.now c out.old cells.old regs.old scr.old (answer_of result) (controls_of c result) out.new cells.new regs.new scr.new }
-{
-    let mut t = Tables::<24, 25>::new();
-    fill_by(&mut t, sheet, c, out, cells, regs, scr)
-}
-
-fn fill_any(
-    sheet: &[u8],
-    c: Controls,
-    out: &mut [f32],
-    cells: &mut [f32],
-    regs: &mut [u64],
-    scr: &mut [f32],
-) -> Result<Controls, Refusal>
-    ensures { Fills sheet.now c out.old cells.old regs.old scr.old (answer_of result) (controls_of c result) out.new cells.new regs.new scr.new }
-{
-    let mut t = Tables::<256, 257>::new();
-    fill_by(&mut t, sheet, c, out, cells, regs, scr)
+    let mut t = Tables::<N, M>::new();
+    let p = prepare::prepare(sheet, cells.len(), regs.len(), scr.len(), &mut t)?;
+    calls::play(sheet, p.count, p.scratch, &t, c, out, cells, regs, scr)
 }
 
 // As many samples as out has, for the controls c; the controls after them.
@@ -90,12 +59,12 @@ pub fn fill(
     ensures { Fills sheet.now c out.old cells.old regs.old scr.old (answer_of result) (controls_of c result) out.new cells.new regs.new scr.new }
 {
     if sheet.len() <= SHORT {
-        return fill_short(sheet, c, out, cells, regs, scr);
+        return fill_with::<24, 25>(sheet, c, out, cells, regs, scr);
     }
-    fill_any(sheet, c, out, cells, regs, scr)
+    fill_with::<256, 257>(sheet, c, out, cells, regs, scr)
 }
 
-// ---- moves; `cutoff_short` and `cutoff_any` are apart as those of a fill are
+// ---- moves
 
 // Glides to the pitch `scale` by the part `coefficient` of the way a sample.
 pub fn pitch(c: Controls, scale: f32, coefficient: f32) -> Controls
@@ -110,47 +79,20 @@ pub fn bend(c: Controls, x: f32) -> Controls
     c.set_bend(x)
 }
 
-fn cutoff_by<const N: usize, const M: usize>(
-    t: &mut Tables<N, M>,
+fn cutoff_with<const N: usize, const M: usize>(
     sheet: &[u8],
     x: f32,
     cells: &mut [f32],
     regs: &[u64],
     scr: &[f32],
 ) -> Result<(), Refusal>
-    requires { Rows sheet.now N × (N < M) }
+    requires { Rows sheet.now N × (N < M) × (M ≤ 257) }
     ensures { Cuts sheet.now x cells.old (length regs.now) (length scr.now) (answer_of result) cells.new }
 {
-    let p = prepare::prepare(sheet, cells.len(), regs.len(), scr.len(), t)?;
+    let mut t = Tables::<N, M>::new();
+    let p = prepare::prepare(sheet, cells.len(), regs.len(), scr.len(), &mut t)?;
     state::set_cutoff(&t.plan(sheet, p.count), x, cells);
     Ok(())
-}
-
-fn cutoff_short(
-    sheet: &[u8],
-    x: f32,
-    cells: &mut [f32],
-    regs: &[u64],
-    scr: &[f32],
-) -> Result<(), Refusal>
-    requires { length sheet.now ≤ 984 }
-    ensures { Cuts sheet.now x cells.old (length regs.now) (length scr.now) (answer_of result) cells.new }
-{
-    let mut t = Tables::<24, 25>::new();
-    cutoff_by(&mut t, sheet, x, cells, regs, scr)
-}
-
-fn cutoff_any(
-    sheet: &[u8],
-    x: f32,
-    cells: &mut [f32],
-    regs: &[u64],
-    scr: &[f32],
-) -> Result<(), Refusal>
-    ensures { Cuts sheet.now x cells.old (length regs.now) (length scr.now) (answer_of result) cells.new }
-{
-    let mut t = Tables::<256, 257>::new();
-    cutoff_by(&mut t, sheet, x, cells, regs, scr)
 }
 
 // Every filter's cutoff is multiplied by x from the next sample on.
@@ -164,9 +106,9 @@ pub fn cutoff(
     ensures { Cuts sheet.now x cells.old (length regs.now) (length scr.now) (answer_of result) cells.new }
 {
     if sheet.len() <= SHORT {
-        return cutoff_short(sheet, x, cells, regs, scr);
+        return cutoff_with::<24, 25>(sheet, x, cells, regs, scr);
     }
-    cutoff_any(sheet, x, cells, regs, scr)
+    cutoff_with::<256, 257>(sheet, x, cells, regs, scr)
 }
 
 // ---- build

@@ -37,27 +37,27 @@ Fits sr P.Tremolo cs rs = Unit
 Fits sr P.Chorus cs rs = (length rs ≡ 1) × (word rs 0 < length cs)
 Fits sr P.Compress cs rs = length cs ≡ 4
 
--- how long the buffers are beside the block, and where the block may stand: Gain and Drive read their value in the first and ask nothing of the position
-unfoldable pub Room : Proc → (n nv nw position : ℕ) → Type 0
-Room P.Gain n nv nw t = n ≤ nv
-Room P.Delay n nv nw t = (n ≤ nv) × (t + n < 2 ^ 64)
-Room P.Reverb n nv nw t = (n ≤ nv) × (t + n < 2 ^ 64)
-Room P.Modal n nv nw t = (n ≤ nv) × (t + n < 2 ^ 64)
-Room P.Drive n nv nw t = (n ≤ nv) × (n ≤ nw)
-Room P.Tremolo n nv nw t = (n ≤ nv) × (t + n < 2 ^ 64)
-Room P.Chorus n nv nw t = (n ≤ nv) × (t + n < 2 ^ 64)
-Room P.Compress n nv nw t = (n ≤ nv) × (t + n < 2 ^ 64)
+-- how long the value's buffer and the other are beside the block, and where the block may stand: Gain and Drive read their value and ask nothing of the position
+unfoldable pub Room : Proc → (n nv nb position : ℕ) → Type 0
+Room P.Gain n nv nb t = n ≤ nv
+Room P.Delay n nv nb t = (n ≤ nb) × (t + n < 2 ^ 64)
+Room P.Reverb n nv nb t = (n ≤ nb) × (t + n < 2 ^ 64)
+Room P.Modal n nv nb t = (n ≤ nb) × (t + n < 2 ^ 64)
+Room P.Drive n nv nb t = (n ≤ nv) × (n ≤ nb)
+Room P.Tremolo n nv nb t = (n ≤ nb) × (t + n < 2 ^ 64)
+Room P.Chorus n nv nb t = (n ≤ nb) × (t + n < 2 ^ 64)
+Room P.Compress n nv nb t = (n ≤ nb) × (t + n < 2 ^ 64)
 
-pub room : (p : Proc) (n nv nw t : ℕ) → n ≤ nv → (1 ≤ values_of (proc_number p) → n ≤ nw) → (values_of (proc_number p) ≡ 0 → t + n < 2 ^ 64) → Room p n nv nw t
+pub room : (p : Proc) (n nv nb t : ℕ) → (1 ≤ values_of (proc_number p) → n ≤ nv) → n ≤ nb → (values_of (proc_number p) ≡ 0 → t + n < 2 ^ 64) → Room p n nv nb t
 unfolding Room proc_number lookup
-room P.Gain n nv nw t v w h = v
-room P.Delay n nv nw t v w h = (v, h refl)
-room P.Reverb n nv nw t v w h = (v, h refl)
-room P.Modal n nv nw t v w h = (v, h refl)
-room P.Drive n nv nw t v w h = (v, w (omega arith))
-room P.Tremolo n nv nw t v w h = (v, h refl)
-room P.Chorus n nv nw t v w h = (v, h refl)
-room P.Compress n nv nw t v w h = (v, h refl)
+room P.Gain n nv nb t v b h = v (omega arith)
+room P.Delay n nv nb t v b h = (b, h refl)
+room P.Reverb n nv nb t v b h = (b, h refl)
+room P.Modal n nv nb t v b h = (b, h refl)
+room P.Drive n nv nb t v b h = (v (omega arith), b)
+room P.Tremolo n nv nb t v b h = (b, h refl)
+room P.Chorus n nv nb t v b h = (b, h refl)
+room P.Compress n nv nb t v b h = (b, h refl)
 
 -- ---- the unit of a processor's record, of which r is the part of the sheet; how many modes there are counts for Modal only
 modes-only : (r : List ℕ) (sr m n : ℕ) (p : Proc) → (p ≡ P.Modal → m ≡ n) → processor_unit r sr m (proc_number p) ≡ processor_unit r sr n (proc_number p)

@@ -47,28 +47,27 @@ fn processor(
     proc: Proc,
     c: control::Controls,
     out: &mut [f32],
-    v: &mut [f32],
-    w: &mut [f32],
+    v: &[f32],
+    buf: &mut [f32],
     cells: &mut [f32],
     regs: &mut [u64],
 )
-    requires { (sr ≤ 192000) × Fits sr proc cells.old regs.old × Room proc (length out.old) (length v.old) (length w.old) c.position }
-    ensures ran { Ran (processor_unit r.now sr (length cells.old / 5) (proc_number proc)) c (buffers_of (values_of (proc_number proc)) v.old w.old) out.old cells.old regs.old out.new cells.new regs.new }
-    ensures held { 1 ≤ values_of (proc_number proc) → v.new ≡ v.old }
+    requires { (sr ≤ 192000) × Fits sr proc cells.old regs.old × Room proc (length out.old) (length v.now) (length buf.old) c.position }
+    ensures { Ran (processor_unit r.now sr (length cells.old / 5) (proc_number proc)) c (buffers_of (values_of (proc_number proc)) v.now buf.old) out.old cells.old regs.old out.new cells.new regs.new }
 {
     match proc {
         Proc::Gain => proc_block::gain_block(out, v),
         Proc::Delay => line_unit::delay(r, out, cells, regs),
         Proc::Reverb => line_unit::reverb(r, sr, out, cells, regs),
         Proc::Modal => modal(r, out, cells),
-        Proc::Drive => filter_unit::drive(r, out, v, w, cells),
-        Proc::Tremolo => tremolo(r, sr, c, out, v),
-        Proc::Chorus => line_unit::chorus(r, sr, c, out, v, cells, regs),
-        Proc::Compress => filter_unit::compress(r, out, v, cells),
+        Proc::Drive => filter_unit::drive(r, out, v, buf, cells),
+        Proc::Tremolo => tremolo(r, sr, c, out, buf),
+        Proc::Chorus => line_unit::chorus(r, sr, c, out, buf, cells, regs),
+        Proc::Compress => filter_unit::compress(r, out, buf, cells),
     }
 }
 
-// Of v and w, Gain and Drive read their value in v; the first that holds no value is the buffer for the passes.
+// Gain and Drive read their value in v; the others read nothing of it. Those that work in passes do so in buf.
 #[tactic(auto, using(unit::specs::Lent::lent_in))]
 pub fn play(
     sheet: &[u8],
@@ -76,20 +75,19 @@ pub fn play(
     proc: Proc,
     c: control::Controls,
     out: &mut [f32],
-    v: &mut [f32],
-    w: &mut [f32],
+    v: &[f32],
+    buf: &mut [f32],
     cells: &mut [f32],
     regs: &mut [u64],
 )
     requires lent { Lent sheet.now i (proc_number proc) (length cells.old) (length regs.old) }
     requires own { values_of (proc_number proc) ≡ 0 → (own_ok sheet.now i (cells.old, regs.old) ≡ true) × (c.position + length out.old < 2 ^ 64) }
-    requires first { length out.old ≤ length v.old }
-    requires second { 1 ≤ values_of (proc_number proc) → length out.old ≤ length w.old }
-    ensures ran { Ran (kind_unit sheet.now i) c (buffers_of (values_of (proc_number proc)) v.old w.old) out.old cells.old regs.old out.new cells.new regs.new }
-    ensures held { 1 ≤ values_of (proc_number proc) → v.new ≡ v.old }
+    requires value { 1 ≤ values_of (proc_number proc) → length out.old ≤ length v.now }
+    requires buffer { length out.old ≤ length buf.old }
+    ensures { Ran (kind_unit sheet.now i) c (buffers_of (values_of (proc_number proc)) v.now buf.old) out.old cells.old regs.old out.new cells.new regs.new }
 {
     let r = Record::at(sheet, i);
-    processor(&r, sheet::rate(sheet), proc, c, out, v, w, cells, regs);
+    processor(&r, sheet::rate(sheet), proc, c, out, v, buf, cells, regs);
 }
 
 // A filter owns no registers; v is its value's buffer.

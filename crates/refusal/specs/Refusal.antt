@@ -1,6 +1,6 @@
 -- The numbers of the refusals, and of what a call answers: 0 where it is accepted.
 use Rattle.std.specs.Prelude.{◌≡◌, ◌≢◌, refl, ℕ, Ok, Err, Result}
-use Rattle.std.proofs.Common.{◌∙◌, sym, arith}
+use Rattle.std.proofs.Common.{arith}
 use Rattle.refusal.specs.declared.Refusal.{Refusal}
 use Rattle.refusal.specs.declared.Refusal.TheVariants.{Length, Header, Record, Link, Linked, Chain, Depth, Memory, State, Position}
 

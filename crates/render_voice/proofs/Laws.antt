@@ -1,6 +1,9 @@
 -- What the proofs use of the definitions.
-use Rattle.std.specs.Prelude.{◌≡◌, refl, Bool, true, false, cond, ◌&&◌, List, [], ◌∷◌, ℕ, suc, ◌+◌, ◌-◌, ◌*◌, ◌≤◌, ◌<◌, eqb, length, drop, get_or, Float}
+use Rattle.std.specs.Prelude.{◌≡◌, refl, Bool, true, false, cond, ◌&&◌, List, [], ◌∷◌, ℕ, suc, ◌+◌, ◌-◌, ◌*◌, ◌≤◌, ◌<◌, eqb, length, drop, get_or, replicate, Float}
 use Rattle.std.proofs.Common.{sym, ap, ◌∙◌, mul-le-mul, add-one, arith, drop-cons, le-leb, eqb-true}
+use Rattle.std.proofs.lemmas.List.{length-replicate}
+use Rattle.std.specs.Float.{binary32}
+use Rattle.std.specs.Float.Ieee.{of_bits}
 use Rattle.std.proofs.lemmas.Bool.{lt-leb}
 use Rattle.control.specs.declared.Controls.{Controls}
 use Rattle.sheet.specs.Checks.{check_of}
@@ -25,6 +28,17 @@ module _ (n k d : ℕ) (text : List ℕ) (h : k < length text) where
 
   pub seconds-other : is_digit (get_or text k d) ≡ false → seconds_from n (drop k text) ≡ 0
   seconds-other e = rw (drop-cons text k d) (first-other n (get_or text k d) (drop (suc k) text) e)
+
+-- the same by the bounds of the byte, where no function asks whether it is a digit
+module _ (n k : ℕ) (text : List ℕ) (h : k < length text) where
+  pub seconds-digit-between : 48 ≤ get_or text k 0 → get_or text k 0 ≤ 57 → seconds_from n (drop k text) ≡ seconds_from (10 * n + (get_or text k 0 - 48)) (drop (k + 1) text)
+  seconds-digit-between l m = seconds-digit n k 0 text h (rw (le-leb 48 (get_or text k 0) l, le-leb (get_or text k 0) 57 m))
+
+  pub seconds-below : get_or text k 0 < 48 → seconds_from n (drop k text) ≡ 0
+  seconds-below l = seconds-other n k 0 text h (rw (lt-leb 48 (get_or text k 0) l))
+
+  pub seconds-above : 57 < get_or text k 0 → seconds_from n (drop k text) ≡ 0
+  seconds-above m = seconds-other n k 0 text h (rw (le-leb 48 (get_or text k 0) (omega arith), lt-leb (get_or text k 0) 57 m))
 
 pub seconds-end : (n : ℕ) → n ≤ 3600 → seconds_from n [] ≡ n
 unfolding seconds_from all_digits decimal_from
@@ -59,3 +73,7 @@ built {s} {c} {r} {cs} {zs} {ds} {ws} {rs} {ss} {a} b z = (room-passed s (length
 -- ---- numbers
 pub most-samples : (r t : ℕ) → r ≤ 192000 → t ≤ 3600 → r * t ≤ 691200000
 most-samples r t h g = mul-le-mul h g
+
+-- the length of an array of zeros. No function asks for it since the zeros are a `Vec`
+pub zeros-length : (n : ℕ) → n ≡ length (replicate n (of_bits binary32 0))
+zeros-length n = sym (length-replicate n (of_bits binary32 0))

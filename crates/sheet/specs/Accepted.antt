@@ -9,12 +9,13 @@ use Rattle.std.proofs.Math.ListN.{get_or-eq_default}
 use Rattle.tree.specs.Tree.{node, In, here, kid, rest, Apart}
 use Rattle.tree.specs.Forest.{Forest, build, whole, root, root-apart}
 use Rattle.sheet.specs.Bytes.{u16_at}
-use Rattle.sheet.specs.Record.{count_of, rate_of, record_at, kind, first, next}
-use Rattle.sheet.specs.Kinds.{is_node}
+use Rattle.sheet.specs.Record.{count_of, rate_of, record_at, kind, kind_of, option_of, first, next}
+use Rattle.sheet.specs.Kinds.{is_node, row_of}
 use Rattle.sheet.specs.Tree.{root_tree, depth_of}
 use Rattle.sheet.specs.Checks.{all, sum, length_ok, header_ok, record_ok, link_ok, links_ok, once_ok, links_to, chain_ok, depth_ok, lowest, check_of}
 use Rattle.sheet.specs.Links.{at, Links, Linked, LinksIn, hits_at, once_at, chain_at, shape_of, Tables, Decoded, Rows, Checked}
 use Rattle.sheet.specs.Laws.{both, all-at, sum-some}
+use Rattle.sheet.specs.Table.{known-is}
 use Rattle.sheet.specs.LinkLaws.{hit-not, once, forest-of, first_below, next-below}
 
 -- ---- checks 1 and 2
@@ -122,6 +123,14 @@ then-none true true h = (refl, refl)
 then-none true false h = absurd (omega (arith, h))
 then-none false y h = absurd (omega (arith, h))
 
+-- a record that passes has an option, so that its number is a kind's
+optioned : (r : List ℕ) → record_ok r ≡ true → 1 ≤ (row_of (kind_of r)).options
+unfolding record_ok
+optioned r e =
+    let b = both (ltb (option_of r) (row_of (kind_of r)).options && eqb (u16_at r 6) 0) _ e in
+    let a = both (ltb (option_of r) (row_of (kind_of r)).options) (eqb (u16_at r 6) 0) b.0 in
+    omega (arith, ltb-true _ _ a.0)
+
 module _ (s ks fs ns : List ℕ) where
   pub checked-one : length_ok s ≡ false → Checked s ks fs ns 1
   checked-one a = record { answer = sym (check-is s ∙ rw a); tables = λ q. absurd (omega (arith, q)) }
@@ -142,7 +151,7 @@ module _ (s ks fs ns : List ℕ) where
 
         module _ {n : ℕ} (m : n ≡ count_of s) (kl : n ≤ length ks) (fl : n ≤ length fs) (nl : n ≤ length ns) where
           tables-are : Tables s ks fs ns
-          tables-are = record { kind_at = λ i g. c.kind_at i g (all-at (λ k. record_ok (record_at s k)) (count_of s) passed.0 i g); first_at = c.first_at; next_at = c.next_at }
+          tables-are = record { kind_at = λ i g. known-is (kind s i) (at ks i) (optioned (record_at s i) (all-at (λ k. record_ok (record_at s k)) (count_of s) passed.0 i g)) (c.kind_at i g); first_at = c.first_at; next_at = c.next_at }
 
           kinds-are : at (take n ks) ≡ kind s
           kinds-are = kinds-table tables-are (sized s a).long m kl

@@ -1,8 +1,10 @@
 -- The checks of links over tables: k, f and x give a record's kind, first and next, n how many records there are. Those of a sheet are these at its own fields.
-use Rattle.std.specs.Prelude.{◌≡◌, Bool, true, cond, ◌&&◌, ◌||◌, List, [], ◌∷◌, map, ◌≢◌, ℕ, ◌+◌, ◌*◌, ◌≤◌, ◌<◌, leb, ltb, eqb, length, get_or}
+use Rattle.std.specs.Prelude.{◌≡◌, Bool, cond, ◌&&◌, ◌||◌, List, [], ◌∷◌, map, ◌≢◌, ℕ, ◌+◌, ◌*◌, ◌≤◌, ◌<◌, leb, ltb, eqb, length, get_or}
 use Rattle.tree.specs.Forest.{Forest, whole, root}
 use Rattle.sheet.specs.Record.{count_of, kind, first, next, record_at}
 use Rattle.sheet.specs.Kinds.{row_of, is_node}
+use Rattle.sheet.specs.Numbers.{kind_number}
+use Rattle.sheet.specs.declared.kinds.Kind.{Kind}
 use Rattle.sheet.specs.Tree.{spine, depth}
 use Rattle.sheet.specs.Checks.{all, hit, sum, holds, link_ok, record_ok, links_ok, check_of, check, lowest}
 
@@ -85,10 +87,10 @@ pub record Tables (s ks fs ns : List ℕ) : Type 0 where
   pub first_at : (i : ℕ) → i < count_of s → at fs i ≡ first s i
   pub next_at : (i : ℕ) → i < count_of s → at ns i ≡ next s i
 
--- after a pass over the records: a kind where check 3 passes the record, and every link
+-- after a pass over the records: every kind, where the number is a kind's, and every link
 pub record Decoded (s ks fs ns : List ℕ) (r : ℕ) : Type 0 where
   pub answer : r ≡ lowest (check 3 (all (λ i. record_ok (record_at s i)) (count_of s)) ∷ check 4 (all (links_ok s) (count_of s)) ∷ [])
-  pub kind_at : (i : ℕ) → i < count_of s → record_ok (record_at s i) ≡ true → at ks i ≡ kind s i
+  pub kind_at : (i : ℕ) → i < count_of s → (k : Kind) → kind_number k ≡ kind s i → at ks i ≡ kind s i
   pub first_at : (i : ℕ) → i < count_of s → at fs i ≡ first s i
   pub next_at : (i : ℕ) → i < count_of s → at ns i ≡ next s i
 

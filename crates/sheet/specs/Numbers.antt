@@ -1,5 +1,5 @@
 -- The number of each kind, as document 01 lists them.
-use Rattle.std.specs.Prelude.{◌≡◌, ◌≢◌, List, map, ℕ, Option, Some, None}
+use Rattle.std.specs.Prelude.{◌≡◌, ◌≢◌, ◌≤◌, List, map, ℕ, Option, Some, None}
 use Rattle.sheet.specs.declared.kinds.Src.{Src}
 use Rattle.sheet.specs.declared.kinds.Src.TheVariants as S
 use Rattle.sheet.specs.declared.kinds.Fold.{Fold}
@@ -14,7 +14,8 @@ use Rattle.sheet.specs.declared.kinds.Kind.{Kind}
 use Rattle.sheet.specs.declared.kinds.Kind.TheVariants as K
 use Rattle.sheet.specs.declared.kinds.Chain.{Chain as Made}
 use Rattle.sheet.specs.declared.kinds.Chain.TheVariants as C
-use Rattle.sheet.specs.Kinds.{Chain, empty, values, nodes, modes, steps}
+use Rattle.sheet.specs.declared.kinds.Entry.{Entry}
+use Rattle.sheet.specs.Kinds.{row_of, Chain, empty, values, nodes, modes, steps}
 
 unfoldable pub src_number : Src → ℕ
 src_number S.Sine = 1
@@ -69,9 +70,9 @@ kind_number (K.Val v) = val_number v
 kind_number K.Mode = 51
 kind_number K.Step = 52
 
--- whether this is the kind of a number, and none where it is no kind's
-unfoldable pub Numbered : ℕ → Option Kind → Type 0
-Numbered k (Some kind) = kind_number kind ≡ k
+-- whether this is the entry of a number, and none where it is no kind's
+unfoldable pub Numbered : ℕ → Option Entry → Type 0
+Numbered k (Some e) = (kind_number e.kind ≡ k) × (e.options ≡ (row_of k).options) × (e.numbers ≡ (row_of k).numbers) × (e.numbers ≤ 7)
 Numbered k None = (kind : Kind) → kind_number kind ≢ k
 
 -- the kinds of a table by their numbers

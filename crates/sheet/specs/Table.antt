@@ -1,6 +1,7 @@
 -- What the rows say of a number that is no kind's, and of the numbers past them.
 use Rattle.std.specs.Prelude.{◌≡◌, refl, Bool, true, ◌&&◌, List, [], ◌∷◌, map, drop, length, get_or, ◌≢◌, ℕ, ◌≤◌, leb}
 use Rattle.std.proofs.Common.{ap, arith, leb-true, ne_eqb}
+use Rattle.std.proofs.Math.Decide.{ℕ_discrete}
 use Rattle.sheet.specs.Kinds.{empty, Row, rows, lookup, row_of}
 use Rattle.sheet.specs.Numbers.{kind_number, src_number, fold_number, biquad_number, proc_number, val_number}
 use Rattle.sheet.specs.declared.kinds.Src.TheVariants as S
@@ -35,6 +36,13 @@ lookup-unknown (r ∷ rs) (x ∷ xs) e k d =
 
 pub row-unknown : (k : ℕ) → ((kind : Kind) → kind_number kind ≢ k) → row_of k ≡ record { number = k; options = 0; numbers = 0; chain = empty }
 row-unknown k d = lookup-unknown rows kinds named k d
+
+-- what holds for every kind of a number that has an option holds, since some kind has the number
+pub known-is : (k x : ℕ) → 1 ≤ (row_of k).options → ((kind : Kind) → kind_number kind ≡ k → x ≡ k) → x ≡ k
+known-is k x h f = elim (ℕ_discrete x k) [
+  | yes e ↦ e
+  | no d ↦ absurd (omega (arith, h, ap (λ (r : Row). r.options) (row-unknown k (λ kind e. d (f kind e)))))
+]
 
 low : List Row → Bool
 low [] = true

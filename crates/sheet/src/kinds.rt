@@ -1,5 +1,5 @@
 // The kinds of records as enums, one inside another: what plays a kind in a way of its own matches on its own enum alone.
-ghost use Rattle.std.specs.Prelude.{◌≡◌, ◌≤◌};
+ghost use Rattle.std.specs.Prelude.{◌≡◌};
 ghost use Rattle.sheet.specs.Kinds.{row_of, is_node, is_processor};
 ghost use Rattle.sheet.specs.Checks.{allows, counts};
 ghost use Rattle.sheet.specs.Numbers.{kind_number, Numbered, chain_of};
@@ -84,92 +84,93 @@ pub enum Chain {
     Steps,
 }
 
-impl Kind {
-    // The kind of a number of the sheet; many numbers are no kind's. As a `TryFrom` it would need an error that says no more than none.
-    #[tactic(auto, unfolding(crate::specs::Numbers::Numbered, crate::specs::Numbers::src_number, crate::specs::Numbers::fold_number, crate::specs::Numbers::biquad_number, crate::specs::Numbers::proc_number, crate::specs::Numbers::val_number, crate::specs::Numbers::kind_number))]
-    pub fn numbered(k: u8) -> Option<Kind>
+// What check 3 asks of a kind: how many options it has, and how many of its eight numbers it uses.
+#[derive(Clone, Copy)]
+pub struct Entry {
+    pub kind: Kind,
+    pub options: u8,
+    pub numbers: u8,
+}
+
+macro_rules! entry {
+    ($kind:expr, $options:literal, $numbers:literal) => {
+        Some(Entry {
+            kind: $kind,
+            options: $options,
+            numbers: $numbers,
+        })
+    };
+}
+
+// By the number that a kind has in a sheet, none where it is no kind's. Methods of the kind that match on it would take 24 instructions
+// more a record, and each fill reads all.
+static KINDS: [Option<Entry>; 53] = [
+    None,
+    entry!(Kind::Src(Src::Sine), 1, 0),
+    entry!(Kind::Src(Src::Square), 1, 0),
+    entry!(Kind::Src(Src::Sawtooth), 1, 0),
+    entry!(Kind::Src(Src::Triangle), 1, 0),
+    entry!(Kind::Src(Src::Fm), 1, 1),
+    entry!(Kind::Src(Src::Super), 2, 2),
+    entry!(Kind::Src(Src::Impact), 1, 2),
+    entry!(Kind::Src(Src::Env), 1, 5),
+    entry!(Kind::Src(Src::Noise), 3, 0),
+    entry!(Kind::Src(Src::Dust), 1, 2),
+    entry!(Kind::Fold(Fold::Mix), 1, 0),
+    entry!(Kind::Fold(Fold::Mul), 1, 0),
+    entry!(Kind::Chain, 1, 0),
+    None,
+    None,
+    None,
+    None,
+    None,
+    None,
+    None,
+    entry!(Kind::Proc(Proc::Gain), 1, 0),
+    entry!(Kind::Biquad(Biquad::Lowpass), 1, 1),
+    entry!(Kind::Biquad(Biquad::Highpass), 1, 1),
+    entry!(Kind::Biquad(Biquad::Bandpass), 1, 1),
+    entry!(Kind::Biquad(Biquad::Notch), 1, 1),
+    entry!(Kind::Biquad(Biquad::Peak), 1, 2),
+    entry!(Kind::Biquad(Biquad::Lowshelf), 1, 1),
+    entry!(Kind::Biquad(Biquad::Highshelf), 1, 1),
+    entry!(Kind::Proc(Proc::Delay), 1, 2),
+    entry!(Kind::Proc(Proc::Reverb), 1, 2),
+    entry!(Kind::Proc(Proc::Modal), 1, 1),
+    entry!(Kind::Proc(Proc::Drive), 6, 0),
+    entry!(Kind::Proc(Proc::Tremolo), 1, 2),
+    entry!(Kind::Proc(Proc::Chorus), 1, 3),
+    entry!(Kind::Proc(Proc::Compress), 1, 5),
+    None,
+    None,
+    None,
+    None,
+    None,
+    entry!(Kind::Val(Val::Const), 1, 1),
+    entry!(Kind::Val(Val::Slide), 2, 3),
+    entry!(Kind::Val(Val::Lfo), 4, 3),
+    entry!(Kind::Val(Val::Arp), 1, 1),
+    entry!(Kind::Val(Val::EnvMod), 1, 7),
+    entry!(Kind::Val(Val::Rand), 1, 5),
+    None,
+    None,
+    None,
+    None,
+    entry!(Kind::Mode, 1, 3),
+    entry!(Kind::Step, 1, 1),
+];
+
+impl Entry {
+    // The entry of a number of the sheet; many numbers are no kind's. As a `TryFrom` it would need an error that says no more than none.
+    pub fn numbered(k: u8) -> Option<Entry>
         ensures { Numbered k result }
     {
-        match k {
-            1 => Some(Kind::Src(Src::Sine)),
-            2 => Some(Kind::Src(Src::Square)),
-            3 => Some(Kind::Src(Src::Sawtooth)),
-            4 => Some(Kind::Src(Src::Triangle)),
-            5 => Some(Kind::Src(Src::Fm)),
-            6 => Some(Kind::Src(Src::Super)),
-            7 => Some(Kind::Src(Src::Impact)),
-            8 => Some(Kind::Src(Src::Env)),
-            9 => Some(Kind::Src(Src::Noise)),
-            10 => Some(Kind::Src(Src::Dust)),
-            11 => Some(Kind::Fold(Fold::Mix)),
-            12 => Some(Kind::Fold(Fold::Mul)),
-            13 => Some(Kind::Chain),
-            21 => Some(Kind::Proc(Proc::Gain)),
-            22 => Some(Kind::Biquad(Biquad::Lowpass)),
-            23 => Some(Kind::Biquad(Biquad::Highpass)),
-            24 => Some(Kind::Biquad(Biquad::Bandpass)),
-            25 => Some(Kind::Biquad(Biquad::Notch)),
-            26 => Some(Kind::Biquad(Biquad::Peak)),
-            27 => Some(Kind::Biquad(Biquad::Lowshelf)),
-            28 => Some(Kind::Biquad(Biquad::Highshelf)),
-            29 => Some(Kind::Proc(Proc::Delay)),
-            30 => Some(Kind::Proc(Proc::Reverb)),
-            31 => Some(Kind::Proc(Proc::Modal)),
-            32 => Some(Kind::Proc(Proc::Drive)),
-            33 => Some(Kind::Proc(Proc::Tremolo)),
-            34 => Some(Kind::Proc(Proc::Chorus)),
-            35 => Some(Kind::Proc(Proc::Compress)),
-            41 => Some(Kind::Val(Val::Const)),
-            42 => Some(Kind::Val(Val::Slide)),
-            43 => Some(Kind::Val(Val::Lfo)),
-            44 => Some(Kind::Val(Val::Arp)),
-            45 => Some(Kind::Val(Val::EnvMod)),
-            46 => Some(Kind::Val(Val::Rand)),
-            51 => Some(Kind::Mode),
-            52 => Some(Kind::Step),
-            _ => None,
-        }
+        let i = usize::from(k);
+        if i < KINDS.len() { KINDS[i] } else { None }
     }
+}
 
-    // How many options it has.
-    #[tactic(auto, unfolding(crate::specs::Numbers::src_number, crate::specs::Numbers::fold_number, crate::specs::Numbers::biquad_number, crate::specs::Numbers::proc_number, crate::specs::Numbers::val_number, crate::specs::Numbers::kind_number, crate::specs::Kinds::lookup))]
-    pub fn options(self) -> u8
-        ensures { result ≡ (row_of (kind_number self)).options }
-    {
-        match self {
-            Kind::Proc(Proc::Drive) => 6,
-            Kind::Val(Val::Lfo) => 4,
-            Kind::Src(Src::Noise) => 3,
-            Kind::Src(Src::Super) | Kind::Val(Val::Slide) => 2,
-            _ => 1,
-        }
-    }
-
-    // How many of its eight numbers it uses.
-    #[tactic(auto, unfolding(crate::specs::Numbers::src_number, crate::specs::Numbers::fold_number, crate::specs::Numbers::biquad_number, crate::specs::Numbers::proc_number, crate::specs::Numbers::val_number, crate::specs::Numbers::kind_number, crate::specs::Kinds::lookup))]
-    pub fn numbers(self) -> u8
-        ensures { (result ≡ (row_of (kind_number self)).numbers) × (result ≤ 7) }
-    {
-        match self {
-            Kind::Src(Src::Fm) => 1,
-            Kind::Src(Src::Super | Src::Impact | Src::Dust) => 2,
-            Kind::Src(Src::Env) => 5,
-            Kind::Biquad(Biquad::Peak) => 2,
-            Kind::Biquad(_) => 1,
-            Kind::Proc(Proc::Modal) => 1,
-            Kind::Proc(Proc::Delay | Proc::Reverb | Proc::Tremolo) => 2,
-            Kind::Proc(Proc::Chorus) => 3,
-            Kind::Proc(Proc::Compress) => 5,
-            Kind::Val(Val::Const | Val::Arp) => 1,
-            Kind::Val(Val::Slide | Val::Lfo) => 3,
-            Kind::Val(Val::Rand) => 5,
-            Kind::Val(Val::EnvMod) => 7,
-            Kind::Mode => 3,
-            Kind::Step => 1,
-            _ => 0,
-        }
-    }
-
+impl Kind {
     #[tactic(auto, unfolding(crate::specs::Numbers::src_number, crate::specs::Numbers::fold_number, crate::specs::Numbers::biquad_number, crate::specs::Numbers::proc_number, crate::specs::Numbers::val_number, crate::specs::Numbers::kind_number, crate::specs::Kinds::lookup, crate::specs::Numbers::chain_of))]
     pub fn chain(self) -> Chain
         ensures { chain_of result ≡ (row_of (kind_number self)).chain }

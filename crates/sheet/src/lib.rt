@@ -9,7 +9,7 @@ ghost use Rattle.sheet.specs.Record.{count_of, rate_of, length_of, path_of, kind
 ghost use Rattle.sheet.specs.Numbers.{Numbered, val_number};
 ghost use Rattle.sheet.specs.Value.{adsr_in, value_as};
 
-use kinds::{Kind, Val};
+use kinds::{Entry, Val};
 use std::marker::Model;
 
 // Two, four and eight bytes as a number, the lowest first; by a place, since a part of the slice would be cut for one read.
@@ -128,11 +128,11 @@ impl<'a> Record<'a> {
         self.bytes
     }
 
-    // None where the number is no kind's.
-    pub fn kind(&self) -> Option<Kind>
+    // The entry of its kind, none where its number is no kind's.
+    pub fn entry(&self) -> Option<Entry>
         ensures { Numbered (kind_of self.now) result }
     {
-        Kind::numbered(self.bytes[0])
+        Entry::numbered(self.bytes[0])
     }
 
     // The sheet's own number: which enum it is one of depends on the kind, and `From<u8>` of that enum makes it.

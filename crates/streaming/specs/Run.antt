@@ -1,5 +1,5 @@
 -- A run of samples, block by block: what is made and left is what the sample machine makes and leaves, whatever the scratch held.
-use Rattle.std.specs.Prelude.{◌≡◌, refl, List, ◌++◌, map, ℕ, ◌+◌, ◌-◌, ◌^◌, ◌≤◌, length, take, drop, replicate, Float}
+use Rattle.std.specs.Prelude.{◌≡◌, refl, List, ◌++◌, map, ℕ, ◌+◌, ◌-◌, ◌≤◌, length, take, drop, replicate, Float}
 use Rattle.std.proofs.Common.{sym, ap, ◌∙◌, add-zero, arith, length-drop, length-append, length-take-le, take_at, take_all}
 use Rattle.std.proofs.Math.Seq.{take-append-add}
 use Rattle.tree.specs.Comm.{M, later}

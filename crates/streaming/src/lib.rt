@@ -1,4 +1,5 @@
-// Samples in any number, a block of at most 256 at a time: the pitch of each sample first, then the walk over the records.
+// Samples in any number, a block of at most 256 at a time: the pitch of each sample first, then the walk over the records. Buffers and lent memory are
+// slices of their own, as `walk` tells, and what is asked of them is what it asks.
 #![tactic(auto)]
 
 ghost use Rattle.std.specs.Prelude.{◌≡◌, ◌+◌, ◌^◌, ◌≤◌, ◌<◌, length};

@@ -12,8 +12,8 @@ ghost use Rattle.units.specs.Values.{has_unit};
 
 use sheet::kinds::Kind;
 
-// v and w are the buffers of the values, of which a kind reads as many as it has. Of the others the first is a buffer for what
-// the processors work out in passes. The contract rules out the kinds of the last arm, which have no unit.
+// v and w are the buffers of the values, of which a kind reads as many as it has; the processors that work in passes do so in w. The contract rules out the
+// kinds of the last arm, which have no unit.
 pub fn play(
     sheet: &[u8],
     i: usize,

@@ -336,7 +336,8 @@ impl<R: Read, W: Write> AnswerFile<R, W> {
 
 // ---- the words of a case: the bits of a float, or a number
 
-// The low half of a word. `as` is proved to lose nothing, so the high half is masked first.
+// The low half of a word. The mask leaves what a u32 holds, so that `as` is proved to lose nothing: no `From` makes a u32 of a
+// u64, and `try_from` would give a `Result` whose error cannot be.
 pub fn low(word: u64) -> u32
     ensures { result ≡ word % 4294967296 }
 {

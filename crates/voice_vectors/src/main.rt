@@ -168,7 +168,7 @@ fn next_case(input: &mut impl BufRead, alloc: Global) -> io::Result<Next> {
 
 // ---- one case
 
-// What every voice is lent. A rendering has a struct of four `Vec`s too; a crate for both would be longer than they are.
+// What every voice is lent. A rendering's has these four and its bytes; a crate for both would be longer than they are.
 #[derive(Drop)]
 struct Memory {
     out: Vec<f32>,

@@ -1,4 +1,4 @@
-use Rattle.std.specs.Prelude.{◌≡◌, refl, length}
+use Rattle.std.specs.Prelude.{◌≡◌, length}
 use Rattle.std.proofs.Common.{sym, ap, ◌∙◌, arith, rules}
 -- Invariants.antt names some of these too: it states the invariant, and here the laws about it are cited.
 use Rattle.sheet.specs.Checks.{all}

@@ -1,4 +1,4 @@
-use Rattle.std.specs.Prelude.{◌≡◌, ℕ, true, false, Ok}
+use Rattle.std.specs.Prelude.{◌≡◌, true, false, Ok}
 use Rattle.std.proofs.Common.{sym, ap, ◌∙◌}
 use Rattle.std.proofs.lemmas.Result.{err_from_is_err_and, IfOk-from_err, IfOk-at_ok}
 use Rattle.refusal.specs.Refusal.{answer-ok, answer-err, passed-on}

@@ -9,8 +9,8 @@ processor-requires c =
     let p = c.requires in (
       omega (arith, c.rate.ensures, (good _ p.lent.passed).fastest),
       rw c.rate.ensures (fits _ _ _ p.lent (λ z. (p.own z).0)),
-      room c.args.proc (length c.args.out.now) (length c.args.v.now) (length c.args.w.now) c.args.c.position p.first p.second (λ z. (p.own z).1),
+      room c.args.proc (length c.args.out.now) (length c.args.v.now) (length c.args.buf.now) c.args.c.position p.value p.buffer (λ z. (p.own z).1),
     )
 
-pub returns-clause-ran : goal.returns-clause-ran
-returns-clause-ran c = rw (unit-of _ c.requires.lent c.at-r.ensures c.rate.ensures) c.processor.ensures.ran
+pub returns : goal.returns
+returns c = rw (unit-of _ c.requires.lent c.at-r.ensures c.rate.ensures) c.processor.ensures

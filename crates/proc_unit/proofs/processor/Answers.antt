@@ -4,6 +4,6 @@ use Rattle.unit.specs.Processors.{processor_unit}
 use Rattle.proc_unit.specs.Runs.{gain-ran}
 use Rattle.proc_unit.proofs.processor.Goals as goal
 
-pub returns-in-Gain-clause-ran : goal.returns-in-Gain-clause-ran
+pub returns-in-Gain : goal.returns-in-Gain
 unfolding processor_unit proc_number lookup
-returns-in-Gain-clause-ran c = rw c.in-Gain.is (gain-ran c.args.c _ c.gain_block.ensures)
+returns-in-Gain c = rw c.in-Gain.is (gain-ran c.args.c _ c.gain_block.ensures)

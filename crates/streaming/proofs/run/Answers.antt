@@ -3,8 +3,7 @@ use Prim.Native.Nat.{ℕ, ◌-◌, ◌+◌, ◌≤◌, ◌<◌}
 use native.Mathlib.Omega.{arith}
 use lib.ListN.{length, take, drop, length-drop, length-append}
 use lib.Seq.{length-take-le}
-use Rattle.streaming.specs.Run.{Running, run-start, run-turn, run_end}
-use borrow.Author.Rules.{rules}
+use Rattle.streaming.specs.Run.{run-start, run-turn, run_end}
 use Rattle.streaming.proofs.run.Goals as goal
 
 pub loop-d-init : goal.loop-d-init

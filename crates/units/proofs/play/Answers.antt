@@ -52,7 +52,7 @@ play_filter-requires c =
 
 pub play-requires-in-Proc : goal.play-requires-in-Proc
 unfolding kind_number
-play-requires-in-Proc c = let p = rw c.in-Proc.is at c.requires in record { lent = p.0; own = λ z. (p.2, p.6); first = p.3; second = λ z. p.4 }
+play-requires-in-Proc c = let p = rw c.in-Proc.is at c.requires in record { lent = p.0; own = λ z. (p.2, p.6); value = λ z. p.3; buffer = p.4 }
 
 pub returns-in-Src : goal.returns-in-Src
 unfolding kind_number
@@ -64,7 +64,7 @@ returns-in-Biquad c = rw (c.in-Biquad.is, filter-values c.in-Biquad.filter) (c.p
 
 pub returns-in-Proc : goal.returns-in-Proc
 unfolding kind_number
-returns-in-Proc c = rw c.in-Proc.is c.play-in-Proc.ensures.ran
+returns-in-Proc c = rw c.in-Proc.is c.play-in-Proc.ensures
 
 pub returns-in-Fold : goal.returns-in-Fold
 unfolding kind_number

@@ -2,7 +2,7 @@ use mathlib.Core.Path.{refl}
 use native.Mathlib.Omega.{arith}
 use Rattle.layout.specs.Good.{good}
 use Rattle.layout.proofs.Laws.{playable}
-use Rattle.walk.specs.Nodes.{chain-nodes, fold-nodes, fold-scratch, leaf-left, fold-left, chain-left}
+use Rattle.walk.specs.Nodes.{chain-nodes, is-fold, fold-nodes, fold-scratch, leaf-left, fold-left, chain-left}
 use Rattle.walk.specs.Walk.{voiced, ready-same, walk-start, chain-again, chain-end, mix-again, mix-end, sourced-chain, sourced-leaf, sourced-mix, fold_is, chain_is, left_less}
 use Rattle.walk.proofs.+chain_mix_source.Goals as goal
 
@@ -72,7 +72,7 @@ chain-returns t c =
 pub mix-loop-j-init : goal.mix-loop-j-init
 mix-loop-j-init t c =
     let R = c.row-row.ensures in
-    (R.scratch_is, walk-start (voiced c.args.plan.now.made.passed) c.requires.0 c.requires.1 c.requires.2 c.requires.3 (fold-nodes c.args.fold c.requires.4) R.begin_is)
+    (R.scratch_is, walk-start (voiced c.args.plan.now.made.passed) c.requires.0 c.requires.1 c.requires.2 c.requires.3 (fold-nodes _ (is-fold c.args.fold c.requires.4)) R.begin_is)
 
 pub mix-row-input-requires : goal.mix-row-input-requires
 mix-row-input-requires t c =

@@ -5,7 +5,7 @@ use Rattle.tables.specs.Tables.{Made}
 use Rattle.prepare.specs.declared.Ready.{Ready}
 use Rattle.machine.proofs.Laws.{room-enough, room-passed}
 use Rattle.calls.specs.Calls.{cuts-refused, cuts-all}
-use Rattle.player.proofs.cutoff_by.Goals as goal
+use Rattle.player.proofs.cutoff_with.Goals as goal
 
 pub returns-in_err-p : goal.returns-in_err-p
 returns-in_err-p g c =

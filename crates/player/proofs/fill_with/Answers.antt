@@ -7,7 +7,7 @@ use Rattle.layout.specs.Needs.{scratch_from}
 use Rattle.tables.specs.Tables.{Made}
 use Rattle.prepare.specs.declared.Ready.{Ready}
 use Rattle.calls.specs.Calls.{controls-err, fills-room}
-use Rattle.player.proofs.fill_by.Goals as goal
+use Rattle.player.proofs.fill_with.Goals as goal
 
 pub returns-in_err-p : goal.returns-in_err-p
 returns-in_err-p g c =
