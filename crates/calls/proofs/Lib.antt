@@ -1,1 +1,2 @@
 mod ByNumber
+pub mod Players

@@ -1,79 +1,19 @@
--- The cut theorem: what the machine plays and leaves depends on the accepted moves, on how many samples were made before each, and on how many are made in all; not on how the samples are cut into fills, nor on what was refused.
-use Rattle.std.specs.Prelude.{◌≡◌, refl, Bool, true, false, cond, ℕ, zero, suc, ◌+◌, ◌-◌, ◌≤◌, eqb, length, drop, replicate, Float}
-use Rattle.std.proofs.Common.{sym, ap, ap₂, ◌∙◌, add-zero, eqb-true, drop_at}
-use mathlib.Core.List.{List, [], ◌∷◌, ◌++◌, append_assoc}
+-- The cut theorem of the sample machine: what it plays and leaves depends on the accepted moves, on how many samples were made before each, and on how many are made in all; not on how the samples are cut into fills, nor on what was refused.
+use Rattle.std.specs.Prelude.{◌≡◌, refl, Bool, true, false, cond, ℕ, zero, suc, ◌+◌, eqb, length, drop, replicate, Float}
+use Rattle.std.proofs.Common.{sym, ap, ap₂, ◌∙◌, eqb-true, drop_at}
+use mathlib.Core.List.{List, [], ◌∷◌, ◌++◌, map}
 use native.Mathlib.Omega.{arith}
 use Rattle.std.proofs.Math.Dec.{eqb-suc-zero}
 use Rattle.std.proofs.lemmas.List.{length-replicate}
-use Rattle.tree.specs.Comm.{M, ret, bind}
 use Rattle.sheet.specs.Record.{count_of}
 use Rattle.layout.specs.Needs.{scratch_from}
 use Rattle.unit.specs.Own.{silence}
 use Rattle.machine.specs.Machine.{State, state, room_check, fill_check, samples, Answered, cleared, rested, fill_of, cutoff_of, Call, fill, pitch, bend, cutoff, call, machine}
 use Rattle.machine.proofs.Samples.{samples-add, with_scratch, samples-with-scratch}
-use Rattle.machine.specs.Cut.{Move, asks, bend_to, cutoff_to, made, move_at, move_to, moved_at, pitch_to, plan, plan_from, total}
-
-unfoldable perform : List ℕ → List (ℕ × Move) → ℕ → ℕ → M State (List Float)
-perform s [] t e = samples s (e - t)
-perform s (a ∷ l) t e = bind (samples s (a.0 - t)) (λ ys. bind (λ p. perform s l a.0 e (move_to s a.1 p)) (λ zs. ret (ys ++ zs)))
-
--- scratch plays no part
-samples-rested : (s : List ℕ) (k n : ℕ) (p : State) → samples s n (rested s k p) ≡ ((samples s n p).0, rested s k (samples s n p).1)
-samples-rested s k n p = samples-with-scratch s n (λ zs. (rested s k (with_scratch (λ us. zs) p)).scratch) p
-
-move-rested : (s : List ℕ) (k : ℕ) (m : Move) (p : State) → move_to s m (rested s k p) ≡ rested s k (move_to s m p)
-move-rested s k (pitch_to scale coefficient) p = refl
-move-rested s k (bend_to x) p = refl
-move-rested s k (cutoff_to x) p = refl
-
-perform-rested : (s : List ℕ) (k : ℕ) (l : List (ℕ × Move)) (t e : ℕ) (p : State) → perform s l t e (rested s k p) ≡ ((perform s l t e p).0, rested s k (perform s l t e p).1)
-unfolding perform
-perform-rested s k [] t e p = samples-rested s k (e - t) p
-perform-rested s k (a ∷ l) t e p =
-    let r = samples s (a.0 - t) p in
-    let after : M State (List Float) = λ q. perform s l a.0 e (move_to s a.1 q) in
-    ap {B = List Float × State} (λ (w : List Float × State). (w.0 ++ (after w.1).0, (after w.1).1)) (samples-rested s k (a.0 - t) p)
-    ∙ ap {B = List Float × State} (λ (q : State). (r.0 ++ (perform s l a.0 e q).0, (perform s l a.0 e q).1)) (move-rested s k a.1 r.1)
-    ∙ ap {B = List Float × State} (λ (w : List Float × State). (r.0 ++ w.0, w.1)) (perform-rested s k l a.0 e (move_to s a.1 r.1))
-
--- cleared twice is cleared once
-cleared-again : (s : List ℕ) (zs : List Float) → cleared s (cleared s zs) ≡ cleared s zs
-cleared-again s zs =
-    let n = scratch_from s (count_of s) in
-    ap (λ (l : List Float). replicate n silence ++ l) (drop_at (replicate n silence) (drop n zs) n (length-replicate n silence))
-
-rested-again : (s : List ℕ) (m n : ℕ) (p : State) → rested s n (rested s m p) ≡ rested s (m + n) p
-rested-again s zero n p = let e : 0 + n ≡ n = omega arith in rw e
-rested-again s (suc m) n p = let e : suc m + n ≡ suc (m + n) = omega arith in rw (e, eqb-suc-zero m, eqb-suc-zero (m + n)) (once (eqb n 0))
-  where
-    once : (b : Bool) → state p.controls p.cells p.registers (cond b (cleared s p.scratch) (cleared s (cleared s p.scratch)))
-        ≡ state p.controls p.cells p.registers (cleared s p.scratch)
-    once true = refl
-    once false = ap (state p.controls p.cells p.registers) (cleared-again s p.scratch)
-
--- ---- n samples more, in front of a plan that begins after them
--- no move of l is before u, and neither is the end
-abbrev From : ℕ → List (ℕ × Move) → ℕ → Type 0
-From u [] e = u ≤ e
-From u (a ∷ l) e = u ≤ a.0
-
-from_le : (u n : ℕ) (l : List (ℕ × Move)) (e : ℕ) → From (u + n) l e → From u l e
-from_le u n [] e h = omega arith
-from_le u n (a ∷ l) e h = omega arith
-
-samples-join : (s : List ℕ) (n t e : ℕ) → t + n ≤ e → samples s (e - t) ≡ bind (samples s n) (λ ys. bind (samples s (e - (t + n))) (λ zs. ret (ys ++ zs)))
-samples-join s n t e h = let d : e - t ≡ n + (e - (t + n)) = omega arith in ap (samples s) d ∙ samples-add s n (e - (t + n))
-
-perform-join : (s : List ℕ) (n t : ℕ) (l : List (ℕ × Move)) (e : ℕ) → From (t + n) l e → (p : State)
-    → perform s l t e p ≡ bind (samples s n) (λ ys. bind (perform s l (t + n) e) (λ zs. ret (ys ++ zs))) p
-unfolding perform
-perform-join s n t [] e h p = ap (λ (f : M State (List Float)). f p) (samples-join s n t e h)
-perform-join s n t (a ∷ l) e h p =
-    let after : M State (List Float) = λ q. perform s l a.0 e (move_to s a.1 q) in
-    let r = samples s n p in
-    let u = samples s (a.0 - (t + n)) r.1 in
-    ap {B = List Float × State} (λ (f : M State (List Float)). ((f p).0 ++ (after (f p).1).0, (after (f p).1).1)) (samples-join s n t a.0 h)
-    ∙ ap {B = List Float × State} (λ (ys : List Float). (ys, (after u.1).1)) (append_assoc r.0 u.0 (after u.1).0)
+use Rattle.machine.specs.Lists as lists
+use Rattle.machine.specs.Cuts.{Lawful}
+use Rattle.machine.proofs.Cuts as Cuts
+use Rattle.machine.specs.Cut.{Move, pitch_to, bend_to, cutoff_to, move_to, asks, move_at, made, moved_at, plan, plan_from, total, one_key, view}
 
 -- ---- what a call comes to: nothing, where it is refused; samples; or a move
 pub data Outcome (s : List ℕ) (p : State) : Call → Answered × State → Type 0 where
@@ -96,70 +36,90 @@ outcome s (cutoff x) p = go (eqb (room_check s (length p.cells) (length p.regist
     go true e = rw e (moving (cutoff_to x) refl (λ t. refl))
     go false e = rw e (refusal e)
 
--- ---- the moves of a plan come no earlier than it begins
-module _ (s : List ℕ) where
-  -- what is planned from a call on that came to r
-  abbrev plan_by : ℕ → Call → List Call → Answered × State → List (ℕ × Move)
-  plan_by t k ks r = moved_at t k r ++ plan_from s (t + made k r) ks r.1
+-- ---- the sample machine is one of the machines of Lists
+pub call-is : (s : List ℕ) (k : Call) (p : State) → call s k p ≡ lists.call (one_key s) (view k) p
+unfolding call fill_of cutoff_of lists.call
+call-is s (fill n) p = refl
+call-is s (pitch scale coefficient) p = refl
+call-is s (bend x) p = refl
+call-is s (cutoff x) p = refl
 
-  from-call : (t : ℕ) (ks : List Call) (p : State) → ((u : ℕ) (q : State) → From u (plan_from s u ks q) (u + total s ks q))
-      → (k : Call) (r : Answered × State) → Outcome s p k r → From t (plan_by t k ks r) (t + (made k r + total s ks r.1))
-  from-call t ks p rest k r (refusal e) = let d : 0 + total s ks p ≡ total s ks p = omega arith in rw (e, add-zero t, d) (rest t p)
-  from-call t ks p rest k r (filling n a) =
-      let q = rested s n (samples s n p).1 in
-      let d : t + n + total s ks q ≡ t + (n + total s ks q) = omega arith in
-      from_le t n (plan_from s (t + n) ks q) (t + (n + total s ks q)) (rw d at (rest (t + n) q))
-  from-call t ks p rest k r (moving m a e) = rw e (omega arith)
+pub machine-is : (s : List ℕ) (ks : List Call) (p : State) → machine s ks p ≡ lists.fed (one_key s) (map view ks) p
+unfolding machine lists.fed
+machine-is s [] p = refl
+machine-is s (k ∷ ks) p =
+    let a = call s k p in
+    ap {B = (List ℕ × List Float) × State} (λ (w : (List ℕ × List Float) × State). ((a.0.0 ∷ w.0.0, a.0.1 ++ w.0.1), w.1)) (machine-is s ks a.1)
+    ∙ ap {B = (List ℕ × List Float) × State} (λ (u : Answered × State). let w = lists.fed (one_key s) (map view ks) u.1 in ((u.0.0 ∷ w.0.0, u.0.1 ++ w.0.1), w.1)) (call-is s k p)
 
-  plan-from : (ks : List Call) (t : ℕ) (p : State) → From t (plan_from s t ks p) (t + total s ks p)
-  unfolding plan_from total
-  plan-from [] t p = omega arith
-  plan-from (k ∷ ks) t p = from-call t ks p (λ u q. plan-from ks u q) k (call s k p) (outcome s k p)
+-- what a list of calls comes to is the same said of either
+made-is : (s : List ℕ) (k : Call) (r : Answered × State) → made k r ≡ lists.made (one_key s) (view k) r
+made-is s (fill n) r = refl
+made-is s (pitch scale coefficient) r = refl
+made-is s (bend x) r = refl
+made-is s (cutoff x) r = refl
 
-  -- ---- the machine performs its plan, and clears scratch once
-  abbrev played : List Call → State → List Float × State
-  played ks p = let r = machine s ks p in (r.0.1, r.1)
+moved-is : (s : List ℕ) (t : ℕ) (k : Call) (r : Answered × State) → moved_at t k r ≡ lists.moved_at (one_key s) t (view k) r
+moved-is s t (fill n) r = refl
+moved-is s t (pitch scale coefficient) r = refl
+moved-is s t (bend x) r = refl
+moved-is s t (cutoff x) r = refl
 
-  abbrev performed : List (ℕ × Move) → ℕ → ℕ → State → List Float × State
-  performed l t n p = let r = perform s l t (t + n) p in (r.0, rested s n r.1)
+pub total-is : (s : List ℕ) (ks : List Call) (p : State) → total s ks p ≡ lists.total (one_key s) (map view ks) p
+unfolding total lists.total
+total-is s [] p = refl
+total-is s (k ∷ ks) p =
+    let m = one_key s in
+    ap₂ ◌+◌ (made-is s k (call s k p)) (total-is s ks (call s k p).1)
+    ∙ ap (λ (u : Answered × State). lists.made m (view k) u + lists.total m (map view ks) u.1) (call-is s k p)
 
-  perform-move : (t n : ℕ) (m : Move) (l : List (ℕ × Move)) (p : State) → performed l t n (move_to s m p) ≡ performed ((t, m) ∷ l) t n p
-  unfolding perform samples
-  perform-move t n m l p = let z : t - t ≡ 0 = omega arith in rw z
+pub plan-is : (s : List ℕ) (t : ℕ) (ks : List Call) (p : State) → plan_from s t ks p ≡ lists.plan_from (one_key s) t (map view ks) p
+unfolding plan_from lists.plan_from
+plan-is s t [] p = refl
+plan-is s t (k ∷ ks) p =
+    let m = one_key s in
+    let r = call s k p in
+    ap₂ ◌++◌ (moved-is s t k r) (plan-is s (t + made k r) ks r.1)
+    ∙ ap (λ (n : ℕ). lists.moved_at m t (view k) r ++ lists.plan_from m (t + n) (map view ks) r.1) (made-is s k r)
+    ∙ ap (λ (u : Answered × State). lists.moved_at m t (view k) u ++ lists.plan_from m (t + lists.made m (view k) u) (map view ks) u.1) (call-is s k p)
 
-  perform-fill : (t n k : ℕ) (l : List (ℕ × Move)) (p : State) → From (t + n) l (t + n + k)
-      → let q = samples s n p in let r = performed l (t + n) k (rested s n q.1) in ◌≡◌ {A = List Float × State} (q.0 ++ r.0, r.1) (performed l t (n + k) p)
-  perform-fill t n k l p h =
-      let q = samples s n p in
-      let e : t + n + k ≡ t + (n + k) = omega arith in
-      let r = perform s l (t + n) (t + n + k) q.1 in
-      ap {B = List Float × State} (λ (w : List Float × State). (q.0 ++ w.0, rested s k w.1)) (perform-rested s n l (t + n) (t + n + k) q.1)
-      ∙ ap {B = List Float × State} (λ (u : State). (q.0 ++ r.0, u)) (rested-again s n k r.1)
-      ∙ ap {B = List Float × State} (λ (w : List Float × State). (w.0, rested s (n + k) w.1)) (sym (perform-join s n t l (t + n + k) h p))
-      ∙ ap {B = List Float × State} (λ (j : ℕ). let w = perform s l t j p in (w.0, rested s (n + k) w.1)) e
+-- ---- scratch plays no part, and cleared twice is cleared once
+samples-rested : (s : List ℕ) (k n : ℕ) (p : State) → samples s n (rested s k p) ≡ ((samples s n p).0, rested s k (samples s n p).1)
+samples-rested s k n p = samples-with-scratch s n (λ zs. (rested s k (with_scratch (λ us. zs) p)).scratch) p
 
-  performs-call : (t : ℕ) (ks : List Call) (p : State) → ((u : ℕ) (q : State) → played ks q ≡ performed (plan_from s u ks q) u (total s ks q) q)
-      → (k : Call) (r : Answered × State) → Outcome s p k r
-      → ◌≡◌ {A = List Float × State} (r.0.1 ++ (played ks r.1).0, (played ks r.1).1) (performed (plan_by t k ks r) t (made k r + total s ks r.1) p)
-  performs-call t ks p rest k r (refusal e) = let d : 0 + total s ks p ≡ total s ks p = omega arith in rw (e, add-zero t, d) (rest t p)
-  performs-call t ks p rest k r (filling n a) =
-      let q = rested s n (samples s n p).1 in
-      ap {B = List Float × State} (λ (w : List Float × State). ((samples s n p).0 ++ w.0, w.1)) (rest (t + n) q)
-      ∙ perform-fill t n (total s ks q) (plan_from s (t + n) ks q) p (plan-from ks (t + n) q)
-  performs-call t ks p rest k r (moving m a e) =
-      let q = move_to s m p in
-      let d : 0 + total s ks q ≡ total s ks q = omega arith in
-      rw (e, a, add-zero t, d) (rest t q ∙ perform-move t (total s ks q) m (plan_from s t ks q) p)
+move-rested : (s : List ℕ) (k : ℕ) (m : Move) (p : State) → move_to s m (rested s k p) ≡ rested s k (move_to s m p)
+move-rested s k (pitch_to scale coefficient) p = refl
+move-rested s k (bend_to x) p = refl
+move-rested s k (cutoff_to x) p = refl
 
-  performs : (ks : List Call) (t : ℕ) (p : State) → played ks p ≡ performed (plan_from s t ks p) t (total s ks p) p
-  unfolding plan_from total machine perform samples
-  performs [] t p = let e : t + 0 - t ≡ 0 = omega arith in rw e
-  performs (k ∷ ks) t p = performs-call t ks p (λ u q. performs ks u q) k (call s k p) (outcome s k p)
+cleared-again : (s : List ℕ) (zs : List Float) → cleared s (cleared s zs) ≡ cleared s zs
+cleared-again s zs =
+    let n = scratch_from s (count_of s) in
+    ap (λ (l : List Float). replicate n silence ++ l) (drop_at (replicate n silence) (drop n zs) n (length-replicate n silence))
+
+rested-again : (s : List ℕ) (m n : ℕ) (p : State) → rested s n (rested s m p) ≡ rested s (m + n) p
+rested-again s zero n p = let e : 0 + n ≡ n = omega arith in rw e
+rested-again s (suc m) n p = let e : suc m + n ≡ suc (m + n) = omega arith in rw (e, eqb-suc-zero m, eqb-suc-zero (m + n)) (once (eqb n 0))
+  where
+    once : (b : Bool) → state p.controls p.cells p.registers (cond b (cleared s p.scratch) (cleared s (cleared s p.scratch)))
+        ≡ state p.controls p.cells p.registers (cleared s p.scratch)
+    once true = refl
+    once false = ap (state p.controls p.cells p.registers) (cleared-again s p.scratch)
+
+pub one-laws : (s : List ℕ) → Lawful (one_key s)
+unfolding samples
+one-laws s = record {
+  samples_none = refl;
+  samples_add = samples-add s;
+  samples_rested = samples-rested s;
+  move_rested = move-rested s;
+  rested_none = λ p. refl;
+  rested_again = rested-again s;
+}
 
 -- THE CUT THEOREM. Two lists over one sheet and state whose accepted moves are the same, in the same order, each after the same number of samples, and that make equally many samples in all:
 -- they make the same samples, and leave the same controls, cells, registers and scratch.
 pub cut : (s : List ℕ) (ks js : List Call) (p : State) → plan s ks p ≡ plan s js p → total s ks p ≡ total s js p
     → ((machine s ks p).0.1 ≡ (machine s js p).0.1) × ((machine s ks p).1 ≡ (machine s js p).1)
-cut s ks js p e d =
-    let h = performs s ks 0 p ∙ ap₂ (λ (l : List (ℕ × Move)) (n : ℕ). performed s l 0 n p) e d ∙ sym (performs s js 0 p) in
-    (ap (λ (w : List Float × State). w.0) h, ap (λ (w : List Float × State). w.1) h)
+cut s ks js p e d = rw (machine-is s ks p, machine-is s js p)
+    (Cuts.cut (one_key s) (one-laws s) (map view ks) (map view js) p (sym (plan-is s 0 ks p) ∙ e ∙ plan-is s 0 js p) (sym (total-is s ks p) ∙ d ∙ total-is s js p))

@@ -1,5 +1,9 @@
 pub mod Samples
-pub mod Laws
+pub mod Lists
+pub mod Cuts
 pub mod Cut
+pub mod Laws
 pub mod Valid
 pub mod Build
+pub mod ByList
+pub mod Past

@@ -70,7 +70,7 @@ module _ (s : List ℕ) where
       let z : 22 + (k - 22) ≡ k = omega (arith, l.0) in
       rw z at (leb-true 2 (need_of (22 + (k - 22)) (cell_rows v c d b m h)) (all-at (λ j. leb 2 (need_of (22 + j) (cell_rows v c d b m h))) 7 refl (k - 22) (omega (arith, l.0, l.1))))
 
-  filter-cells : (i : ℕ) → is_built (role s i) ≡ true → is_filter (kind s i) ≡ true → 2 ≤ cells s i
+  pub filter-cells : (i : ℕ) → is_built (role s i) ≡ true → is_filter (kind s i) ≡ true → 2 ≤ cells s i
   filter-cells i b e = rw (b, cells-with s i)
       (filter-rows (2 * voices_of (record_at s i)) (noise_cells (option_of (record_at s i))) (delay_line (number_of (record_at s i) 0) (rate_of s)) (reverb_cells (rate_of s)) (5 * chain_length s i)
       (chorus_line (number_of (record_at s i) 1) (rate_of s)) (kind s i) e)

@@ -1,9 +1,10 @@
 -- The cut theorem: what the machine plays and leaves depends on the accepted moves, on how many samples were made before each, and on how many are made in all; not on how the samples are cut into fills, nor on what was refused.
-use Rattle.std.specs.Prelude.{Bool, cond, ℕ, ◌+◌, eqb, Float}
-use mathlib.Core.List.{List, [], ◌∷◌, ◌++◌}
+use Rattle.std.specs.Prelude.{Bool, refl, cond, ℕ, ◌+◌, eqb, length, Float}
+use mathlib.Core.List.{List, [], ◌∷◌, ◌++◌, append_assoc}
 use Rattle.control.specs.Moves.{pitch_moved, bend_moved}
 use Rattle.sheet.specs.Record.{count_of}
-use Rattle.machine.specs.Machine.{State, state, Answered, scaled, Call, fill, pitch, bend, cutoff, call}
+use Rattle.machine.specs.Machine.{State, state, room_check, fill_check, samples, Answered, rested, scaled, Call, fill, pitch, bend, cutoff, call}
+use Rattle.machine.specs.Lists as lists
 
 -- ---- what a list of calls comes to
 pub data Move : Type 0 where
@@ -47,8 +48,30 @@ plan_from s t (k ∷ ks) p = let r = call s k p in moved_at t k r ++ plan_from s
 abbrev pub plan : List ℕ → List Call → State → List (ℕ × Move)
 plan s ks p = plan_from s 0 ks p
 
--- ---- a plan performed: from t samples made to e, scratch as it was
+-- ---- what a move does
 abbrev pub move_to : List ℕ → Move → State → State
 move_to s (pitch_to scale coefficient) p = state (pitch_moved p.controls scale coefficient) p.cells p.registers p.scratch
 move_to s (bend_to x) p = state (bend_moved p.controls x) p.cells p.registers p.scratch
 move_to s (cutoff_to x) p = state p.controls (scaled s x (count_of s) p.cells) p.registers p.scratch
+
+-- ---- the sample machine as one of the machines of Lists
+-- moves of pitch and bend never refuse
+abbrev pub check_for : List ℕ → lists.Call Move → State → ℕ
+check_for s (lists.fill n) p = fill_check s n p
+check_for s (lists.move (pitch_to scale coefficient)) p = 0
+check_for s (lists.move (bend_to x)) p = 0
+check_for s (lists.move (cutoff_to x)) p = room_check s (length p.cells) (length p.registers) (length p.scratch)
+
+-- samples one after the other, shown as they are
+abbrev pub in_a_row : lists.Output (List Float) (List Float)
+in_a_row = record { none = []; join = ◌++◌; join_none = λ l. refl; join_assoc = append_assoc; shown = λ l. l; empty = []; also = ◌++◌; shown_none = refl; shown_join = λ a b. refl }
+
+abbrev pub one_key : List ℕ → lists.Machine State (List Float) (List Float) Move
+one_key s = record { output = in_a_row; check = check_for s; samples = samples s; rested = rested s; move_to = move_to s }
+
+-- a call as one of its calls
+abbrev pub view : Call → lists.Call Move
+view (fill n) = lists.fill n
+view (pitch scale coefficient) = lists.move (pitch_to scale coefficient)
+view (bend x) = lists.move (bend_to x)
+view (cutoff x) = lists.move (cutoff_to x)

@@ -1,5 +1,9 @@
 pub mod Machine
 pub mod Samples
+pub mod Lists
+pub mod Cuts
 pub mod Cut
 pub mod Valid
 pub mod Build
+pub mod ByList
+pub mod Past
