@@ -1,9 +1,11 @@
 //! Whole voices beside the Rust: random sheets and scripts, every sample, the controls after every call, and the state.
 //!
 //!     cargo run --release -p voices -- SEED SHEETS
+//!     cargo run --release -p voices -- damaged SEED SHEETS # refusals, beside a reading of document 01
 //!     cargo run --release -p voices -- replay SEED CASES   # writes the cases of voice_vectors
 //!     cargo run --release -p voices -- speed [WORD]        # the example voices' times, or those whose name has the word
 
+mod damaged;
 mod port;
 mod random;
 mod replay;
@@ -51,6 +53,10 @@ fn main() {
     let done = match env::args().nth(1).as_deref() {
         Some("speed") => speed::run(&folder("examples"), &env::args().nth(2).unwrap_or_default()),
         Some("replay") => replay::write(&folder("crates/voice_vectors"), argument(2, 1), argument(3, 1000)),
+        Some("damaged") => {
+            damaged::run(argument(2, 1), argument(3, 20_000));
+            Ok(())
+        }
         _ => {
             compare(argument(1, 1), argument(2, 1000));
             Ok(())

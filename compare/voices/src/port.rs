@@ -11,17 +11,17 @@ pub struct Controls {
 }
 
 #[repr(C)]
-struct Answer {
-    answer: u8,
-    controls: Controls,
+pub struct Answer {
+    pub answer: u8,
+    pub controls: Controls,
 }
 
 #[repr(C)]
-struct Needed {
-    refusal: u8,
-    cells: u64,
-    registers: u64,
-    scratch: u64,
+pub struct Needed {
+    pub refusal: u8,
+    pub cells: u64,
+    pub registers: u64,
+    pub scratch: u64,
 }
 
 unsafe extern "C" {
@@ -41,7 +41,7 @@ macro_rules! lent_calls {
             ) -> $answer;)*
         }
         impl Voice {
-            $(fn $call(&mut self, $($more: $kind),*) -> $answer {
+            $(pub fn $call(&mut self, $($more: $kind),*) -> $answer {
                 let (sheet, cells, registers, scratch) =
                     (&self.sheet, &mut self.cells, &mut self.registers, &mut self.scratch);
                 unsafe {
@@ -67,17 +67,22 @@ const BEYOND: usize = 3;
 const CELL: f32 = 12345.0;
 const WORD: u64 = 0x0123_4567_89ab_cdef;
 
+#[derive(Clone)]
 pub struct Voice {
-    sheet: Vec<u8>,
+    pub sheet: Vec<u8>,
     pub controls: Controls,
-    cells: Vec<f32>,
-    registers: Vec<u64>,
-    scratch: Vec<f32>,
+    pub cells: Vec<f32>,
+    pub registers: Vec<u64>,
+    pub scratch: Vec<f32>,
+}
+
+pub fn needs(sheet: &[u8]) -> Needed {
+    unsafe { player_needs(sheet.as_ptr(), sheet.len()) }
 }
 
 /// The cells, registers and scratch that a sheet needs.
 pub fn needed(sheet: &[u8]) -> Result<(usize, usize, usize), String> {
-    let needed = unsafe { player_needs(sheet.as_ptr(), sheet.len()) };
+    let needed = needs(sheet);
     match needed.refusal {
         0 => Ok((needed.cells as usize, needed.registers as usize, needed.scratch as usize)),
         refusal => Err(format!("needs answers {refusal}")),

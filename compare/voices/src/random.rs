@@ -47,10 +47,10 @@ impl Random {
     pub fn below(&mut self, n: u64) -> u64 {
         self.word() % n
     }
-    fn one_in(&mut self, n: u64) -> bool {
+    pub fn one_in(&mut self, n: u64) -> bool {
         self.below(n) == 0
     }
-    fn pick<T: Copy>(&mut self, xs: &[T]) -> T {
+    pub fn pick<T: Copy>(&mut self, xs: &[T]) -> T {
         xs[self.below(xs.len() as u64) as usize]
     }
     /// A number of the range, or now and then one of its ends.
@@ -61,7 +61,7 @@ impl Random {
             _ => lo + (hi - lo) * (self.below(1 << 24) as f32 / (1 << 24) as f32),
         }
     }
-    fn any(&mut self) -> f32 {
+    pub fn any(&mut self) -> f32 {
         match self.below(3) {
             0 => f32::from_bits(self.word() as u32),
             1 => f32::from_bits(self.pick(&EDGES)),
@@ -82,12 +82,12 @@ impl Random {
 
 const ENVELOPE: [(f32, f32); 5] = [(0.0, 0.05), (0.0, 0.1), (0.0, 1.0), (0.0, 0.1), (0.0, 1.0)];
 
-fn record(kind: u8, option: u64, numbers: Vec<u32>, chain: Vec<Record>) -> Record {
+pub fn record(kind: u8, option: u64, numbers: Vec<u32>, chain: Vec<Record>) -> Record {
     Record { kind, option: option as u8, numbers, chain }
 }
 
 /// A value about the range.
-fn value(r: &mut Random, lo: f32, hi: f32) -> Record {
+pub fn value(r: &mut Random, lo: f32, hi: f32) -> Record {
     let own = (lo, hi);
     match if r.one_in(2) { 41 } else { 41 + r.below(6) as u8 } {
         42 => record(42, r.below(2), r.numbers(&[own, own, (0.0, 0.1)]), vec![]),
@@ -107,7 +107,7 @@ fn value(r: &mut Random, lo: f32, hi: f32) -> Record {
     }
 }
 
-fn source(r: &mut Random) -> Record {
+pub fn source(r: &mut Random) -> Record {
     let kind = 1 + r.below(10) as u8;
     let freq = if (1..=6).contains(&kind) { vec![value(r, 20.0, 3000.0)] } else { vec![] };
     let and = |mut chain: Vec<Record>, v: Record| {
@@ -129,7 +129,7 @@ fn source(r: &mut Random) -> Record {
     }
 }
 
-fn processor(r: &mut Random) -> Record {
+pub fn processor(r: &mut Random) -> Record {
     let kind = 21 + r.below(15) as u8;
     let unit = (0.0, 1.0);
     let (numbers, chain) = match kind {
@@ -155,7 +155,7 @@ fn processor(r: &mut Random) -> Record {
 }
 
 /// A node at this depth, of at most 5.
-fn node(r: &mut Random, depth: u32) -> Record {
+pub fn node(r: &mut Random, depth: u32) -> Record {
     let choice = if depth >= 5 { 10 + r.below(10) } else { r.below(20) };
     match choice {
         0..=4 => chain(r, depth),
@@ -192,11 +192,19 @@ fn numbering(r: &mut Random, root: &Record) -> Vec<u16> {
 }
 
 pub fn sheet(r: &mut Random) -> Sheet {
+    around(r, |r| {
+        let mut root = if r.one_in(3) { node(r, 1) } else { chain(r, 1) };
+        while root.count() > 256 {
+            root = chain(r, 1);
+        }
+        root
+    })
+}
+
+/// A sheet of a random tree.
+pub fn around(r: &mut Random, tree: impl Fn(&mut Random) -> Record) -> Sheet {
     r.odd = r.pick(&[0, 0, 0, 200, 50, 50, 15, 4]);
-    let mut root = if r.one_in(3) { node(r, 1) } else { chain(r, 1) };
-    while root.count() > 256 {
-        root = chain(r, 1);
-    }
+    let root = tree(r);
     let rate = match r.below(8) {
         0 => 8000 + r.below(184_001) as u32,
         _ => r.pick(&[8000, 8000, 11025, 16000, 22050, 44100, 48000, 48000, 96000, 192000]),

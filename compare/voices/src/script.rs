@@ -115,10 +115,14 @@ impl Pair {
 
 /// Runs the script on both sides. An error says where they differ.
 pub fn run(sheet: &Sheet, script: &Script, tally: &mut Tally) -> Result<(), String> {
-    let bytes = sheet.bytes();
-    let d = Decoder(&bytes);
+    run_bytes(&sheet.bytes(), sheet.order.is_none(), script, tally)
+}
+
+/// The same of an accepted sheet's bytes; `walked` as `Pair` has it.
+pub fn run_bytes(bytes: &[u8], walked: bool, script: &Script, tally: &mut Tally) -> Result<(), String> {
+    let d = Decoder(bytes);
     let rust = Voice::build(&d.node(0), d.rate(), d.length(), d.path());
-    let mut pair = Pair { rust, ours: port::Voice::build(&bytes)?, walked: sheet.order.is_none() };
+    let mut pair = Pair { rust, ours: port::Voice::build(bytes)?, walked };
     pair.controls()?;
     pair.state(tally).map_err(|e| format!("built: {e}"))?;
     pair.rust.pos = script.position as usize;

@@ -106,7 +106,7 @@ impl Run {
                 Next::Case(case) => {
                     self.count(
                         case.expected,
-                        refusal::answer(checks::accepted(case.sheet.as_slice())),
+                        refusal::answer(player::needs(case.sheet.as_slice())),
                     );
                 }
                 Next::Cut => {
