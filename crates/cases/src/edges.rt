@@ -45,7 +45,8 @@ const PHASE: usize = 15597;
 
 // ---- a call
 
-// What came of a call, and the answer that it must get.
+// What came of a call, and the answer that it must get. Both are numbers, as document 01 has them and a list of calls answers: an enum would
+// bring the port's own numbering of the reasons, which is among what is looked at.
 #[derive(Clone, Copy)]
 struct Seen {
     expected: u8,
@@ -168,7 +169,8 @@ fn call_once(
     })
 }
 
-// ---- check 8
+// ---- check 8; here and below the output, the sheet and the allocator are handed on beside each other, since a struct of them would be opened in
+// each function
 
 // Each call that makes it, on so much memory.
 fn room(

@@ -82,6 +82,7 @@ fn sheet_of(rate: u32, records: &[Record], alloc: Global) -> Result<Vec<u8>, All
 
 // ---- what a voice is lent
 
+// `offsets::Needs` is what a sheet needs, and this what is lent, which may be less.
 #[derive(Clone, Copy)]
 struct Room {
     cells: usize,
@@ -89,6 +90,7 @@ struct Room {
     scratch: usize,
 }
 
+// What a voice is lent. `voice_vectors` and `render_voice` have the like; a crate for all would be longer than they are.
 #[derive(Drop)]
 struct Lent {
     out: Vec<f32>,
