@@ -6,7 +6,7 @@ use Rattle.sheet.specs.Checks.{check_of}
 use Rattle.machine.specs.Machine.{State, state, room_check, Answered, fill_of, Call, machine}
 use Rattle.machine.specs.Lists as lists
 use Rattle.machine.proofs.Lists as laws
-use Rattle.machine.specs.Cut.{Move, cutoff_to, plan, total, one_key}
+use Rattle.machine.specs.Cut.{Move, cutoff_to, plan, total, sample_machine}
 use Rattle.machine.proofs.Cut.{machine-is, cut}
 use Rattle.machine.specs.ByList.{Ahead, asked, moves_in}
 use Rattle.machine.proofs.ByList.{cut-lists}
@@ -17,11 +17,11 @@ use Rattle.calls.specs.Players.{Step, filled, scaled, pitched, bent, Run}
 
 module _ (s : List ℕ) where
   cutoff-is : (x : Float) (c : Controls) (cs : List Float) (rs : List ℕ) (zs : List Float) (a : ℕ) (ds : List Float) → Scales s x cs (length rs) (length zs) a ds
-      → ◌≡◌ {A = Answered × State} ((a, []), state c ds rs zs) (lists.call (one_key s) (lists.move (cutoff_to x)) (state c cs rs zs))
+      → ◌≡◌ {A = Answered × State} ((a, []), state c ds rs zs) (lists.call (sample_machine s) (lists.move (cutoff_to x)) (state c cs rs zs))
   unfolding lists.call
   cutoff-is x c cs rs zs a ds f = go (eqb a 0) refl
     where
-      go : (b : Bool) → eqb a 0 ≡ b → ◌≡◌ {A = Answered × State} ((a, []), state c ds rs zs) (lists.call (one_key s) (lists.move (cutoff_to x)) (state c cs rs zs))
+      go : (b : Bool) → eqb a 0 ≡ b → ◌≡◌ {A = Answered × State} ((a, []), state c ds rs zs) (lists.call (sample_machine s) (lists.move (cutoff_to x)) (state c cs rs zs))
       go true e =
           let q : eqb (room_check s (length cs) (length rs) (length zs)) 0 ≡ true = rw (← f.answer) e in
           rw (q, f.cells, e, eqb-true a 0 e)
@@ -29,11 +29,11 @@ module _ (s : List ℕ) where
           let q : eqb (room_check s (length cs) (length rs) (length zs)) 0 ≡ false = rw (← f.answer) e in
           rw (q, f.cells, e, ← f.answer)
 
-  fill-is : (n : ℕ) (p : State) → fill_of s n p ≡ lists.call (one_key s) (lists.fill n) p
+  fill-is : (n : ℕ) (p : State) → fill_of s n p ≡ lists.call (sample_machine s) (lists.fill n) p
   unfolding lists.call fill_of
   fill-is n p = refl
 
-  step-is : (k : lists.Call Move) (p q : State) (a : Answered) → Step s k p a q → ◌≡◌ {A = Answered × State} (a, q) (lists.call (one_key s) k p)
+  step-is : (k : lists.Call Move) (p q : State) (a : Answered) → Step s k p a q → ◌≡◌ {A = Answered × State} (a, q) (lists.call (sample_machine s) k p)
   unfolding lists.call
   step-is k p q a (filled {c} {xs = xs} {cs} {zs} {rs = rs} f) = f.is ∙ fill-is (length xs) (state c cs rs zs)
   step-is k p q a (scaled {c} {x} {cs} {zs} {ds} {rs} {a = n} f) = cutoff-is x c cs rs zs n ds f
@@ -42,7 +42,7 @@ module _ (s : List ℕ) where
 
   -- THE WHOLE LIST: what a player answers, makes and leaves is the machine's
   pub run-is : (ks : List Call) (p q : State) (b : List ℕ × List Float) → Run s ks p b q → ◌≡◌ {A = (List ℕ × List Float) × State} (b, q) (machine s ks p)
-  run-is ks p q b r = laws.run-is (one_key s) (Step s) step-is r ∙ sym (machine-is s ks p)
+  run-is ks p q b r = laws.run-is (sample_machine s) (Step s) step-is r ∙ sym (machine-is s ks p)
 
   -- two lists for which the machine makes and leaves the same
   same-runs : (ks js : List Call) (p q t : State) (b d : List ℕ × List Float) → Run s ks p b q → Run s js p d t

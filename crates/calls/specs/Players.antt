@@ -5,7 +5,7 @@ use Rattle.control.specs.declared.Controls.{Controls}
 use Rattle.control.specs.Moves.{pitch_moved, bend_moved}
 use Rattle.machine.specs.Machine.{State, state, Answered, Call}
 use Rattle.machine.specs.Lists as lists
-use Rattle.machine.specs.Cut.{Move, pitch_to, bend_to, cutoff_to, one_key, view}
+use Rattle.machine.specs.Cut.{Move, pitch_to, bend_to, cutoff_to, sample_machine, view}
 use Rattle.calls.specs.Calls.{Fills, Cuts}
 
 -- ONE PUBLIC CALL, by its contract: from p it answers and makes a, and leaves q
@@ -19,4 +19,4 @@ pub data Step (s : List ℕ) : lists.Call Move → State → Answered → State 
 
 -- THE CALLS OF A LIST, each on what the one before left: from p they answer and make b, and leave q
 abbrev pub Run : List ℕ → List Call → State → List ℕ × List Float → State → Type 0
-Run s ks = lists.Run (one_key s) (Step s) (map view ks)
+Run s ks = lists.Run (sample_machine s) (Step s) (map view ks)

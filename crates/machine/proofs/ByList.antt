@@ -11,8 +11,8 @@ use Rattle.machine.proofs.Samples.{samples-position}
 use Rattle.machine.specs.Lists as lists
 use Rattle.machine.specs.Cuts.{Foresight, Foreseen}
 use Rattle.machine.proofs.Cuts as Cuts
-use Rattle.machine.specs.Cut.{Move, pitch_to, bend_to, cutoff_to, move_to, check_for, plan, total, one_key, view}
-use Rattle.machine.proofs.Cut.{machine-is, total-is, plan-is, one-laws}
+use Rattle.machine.specs.Cut.{Move, pitch_to, bend_to, cutoff_to, move_to, check_for, plan, total, sample_machine, view}
+use Rattle.machine.proofs.Cut.{machine-is, total-is, plan-is, sample-laws}
 use Rattle.machine.proofs.Laws.{passed-fill}
 use Rattle.machine.specs.Valid.{room_for, valid_ok}
 use Rattle.machine.proofs.Valid.{valid-stays}
@@ -40,7 +40,7 @@ module _ (s : List ℕ) (e : check_of s ≡ 0) where
   unfolding call cutoff_of
   valid-moved x p v = rw (cutoff-passes p v) at (valid-stays s e (cutoff x) p v)
 
-  pub foresight : Foresight (one_key s) {W = Unit {0}} (λ u m. 0) (λ u m. u) (λ u n p. Ahead s n p)
+  pub foresight : Foresight (sample_machine s) {W = Unit {0}} (λ u m. 0) (λ u m. u) (λ u n p. Ahead s n p)
   unfolding pitch_moved bend_moved
   foresight = record { fills = λ u n l p h. fills n l p h; moves = λ u m l p h. let r = moves m l p h in (r.0, λ t. r.1) }
     where
@@ -49,8 +49,8 @@ module _ (s : List ℕ) (e : check_of s ≡ 0) where
       moves (bend_to x) l p h = (refl, record { valid = h.valid; left = h.left })
       moves (cutoff_to x) l p h = (cutoff-passes p h.valid, record { valid = valid-moved x p h.valid; left = h.left })
 
-  ahead-foreseen : (ks : List Call) (p : State) → Ahead s (asked ks) p → Foreseen (one_key s) {W = Unit {0}} (λ u m. 0) (λ u m. u) 0 tt (map view ks) p
-  ahead-foreseen ks p h = Cuts.foreseen (one_key s) foresight (map view ks) 0 tt p h
+  ahead-foreseen : (ks : List Call) (p : State) → Ahead s (asked ks) p → Foreseen (sample_machine s) {W = Unit {0}} (λ u m. 0) (λ u m. u) 0 tt (map view ks) p
+  ahead-foreseen ks p h = Cuts.foreseen (sample_machine s) foresight (map view ks) 0 tt p h
 
   -- NOTHING IS REFUSED, and the premises of the cut theorem are read off the list: how many samples it makes, and its plan
   pub answers-none : (ks : List Call) (p : State) → Ahead s (asked ks) p → (machine s ks p).0.0 ≡ replicate (length ks) 0
@@ -65,4 +65,4 @@ module _ (s : List ℕ) (e : check_of s ≡ 0) where
   -- THE CUT, BY THE LISTS: the same moves in the same order, each after the same number of samples, and as many samples in all
   pub cut-lists : (ks js : List Call) (p : State) → Ahead s (asked ks) p → moves_in ks ≡ moves_in js → asked ks ≡ asked js
       → ((machine s ks p).0.1 ≡ (machine s js p).0.1) × ((machine s ks p).1 ≡ (machine s js p).1)
-  cut-lists ks js p h m n = rw (machine-is s ks p, machine-is s js p) (Cuts.cut-lists (one_key s) foresight (one-laws s) (map view ks) (map view js) tt p h m n)
+  cut-lists ks js p h m n = rw (machine-is s ks p, machine-is s js p) (Cuts.cut-lists (sample_machine s) foresight (sample-laws s) (map view ks) (map view js) tt p h m n)

@@ -13,7 +13,7 @@ use Rattle.machine.proofs.Samples.{samples-add, with_scratch, samples-with-scrat
 use Rattle.machine.specs.Lists as lists
 use Rattle.machine.specs.Cuts.{Lawful}
 use Rattle.machine.proofs.Cuts as Cuts
-use Rattle.machine.specs.Cut.{Move, pitch_to, bend_to, cutoff_to, move_to, asks, move_at, made, moved_at, plan, plan_from, total, one_key, view}
+use Rattle.machine.specs.Cut.{Move, pitch_to, bend_to, cutoff_to, move_to, asks, move_at, made, moved_at, plan, plan_from, total, sample_machine, view}
 
 -- ---- what a call comes to: nothing, where it is refused; samples; or a move
 pub data Outcome (s : List ℕ) (p : State) : Call → Answered × State → Type 0 where
@@ -37,47 +37,47 @@ outcome s (cutoff x) p = go (eqb (room_check s (length p.cells) (length p.regist
     go false e = rw e (refusal e)
 
 -- ---- the sample machine is one of the machines of Lists
-pub call-is : (s : List ℕ) (k : Call) (p : State) → call s k p ≡ lists.call (one_key s) (view k) p
+pub call-is : (s : List ℕ) (k : Call) (p : State) → call s k p ≡ lists.call (sample_machine s) (view k) p
 unfolding call fill_of cutoff_of lists.call
 call-is s (fill n) p = refl
 call-is s (pitch scale coefficient) p = refl
 call-is s (bend x) p = refl
 call-is s (cutoff x) p = refl
 
-pub machine-is : (s : List ℕ) (ks : List Call) (p : State) → machine s ks p ≡ lists.fed (one_key s) (map view ks) p
+pub machine-is : (s : List ℕ) (ks : List Call) (p : State) → machine s ks p ≡ lists.fed (sample_machine s) (map view ks) p
 unfolding machine lists.fed
 machine-is s [] p = refl
 machine-is s (k ∷ ks) p =
     let a = call s k p in
     ap {B = (List ℕ × List Float) × State} (λ (w : (List ℕ × List Float) × State). ((a.0.0 ∷ w.0.0, a.0.1 ++ w.0.1), w.1)) (machine-is s ks a.1)
-    ∙ ap {B = (List ℕ × List Float) × State} (λ (u : Answered × State). let w = lists.fed (one_key s) (map view ks) u.1 in ((u.0.0 ∷ w.0.0, u.0.1 ++ w.0.1), w.1)) (call-is s k p)
+    ∙ ap {B = (List ℕ × List Float) × State} (λ (u : Answered × State). let w = lists.fed (sample_machine s) (map view ks) u.1 in ((u.0.0 ∷ w.0.0, u.0.1 ++ w.0.1), w.1)) (call-is s k p)
 
 -- what a list of calls comes to is the same said of either
-made-is : (s : List ℕ) (k : Call) (r : Answered × State) → made k r ≡ lists.made (one_key s) (view k) r
+made-is : (s : List ℕ) (k : Call) (r : Answered × State) → made k r ≡ lists.made (sample_machine s) (view k) r
 made-is s (fill n) r = refl
 made-is s (pitch scale coefficient) r = refl
 made-is s (bend x) r = refl
 made-is s (cutoff x) r = refl
 
-moved-is : (s : List ℕ) (t : ℕ) (k : Call) (r : Answered × State) → moved_at t k r ≡ lists.moved_at (one_key s) t (view k) r
+moved-is : (s : List ℕ) (t : ℕ) (k : Call) (r : Answered × State) → moved_at t k r ≡ lists.moved_at (sample_machine s) t (view k) r
 moved-is s t (fill n) r = refl
 moved-is s t (pitch scale coefficient) r = refl
 moved-is s t (bend x) r = refl
 moved-is s t (cutoff x) r = refl
 
-pub total-is : (s : List ℕ) (ks : List Call) (p : State) → total s ks p ≡ lists.total (one_key s) (map view ks) p
+pub total-is : (s : List ℕ) (ks : List Call) (p : State) → total s ks p ≡ lists.total (sample_machine s) (map view ks) p
 unfolding total lists.total
 total-is s [] p = refl
 total-is s (k ∷ ks) p =
-    let m = one_key s in
+    let m = sample_machine s in
     ap₂ ◌+◌ (made-is s k (call s k p)) (total-is s ks (call s k p).1)
     ∙ ap (λ (u : Answered × State). lists.made m (view k) u + lists.total m (map view ks) u.1) (call-is s k p)
 
-pub plan-is : (s : List ℕ) (t : ℕ) (ks : List Call) (p : State) → plan_from s t ks p ≡ lists.plan_from (one_key s) t (map view ks) p
+pub plan-is : (s : List ℕ) (t : ℕ) (ks : List Call) (p : State) → plan_from s t ks p ≡ lists.plan_from (sample_machine s) t (map view ks) p
 unfolding plan_from lists.plan_from
 plan-is s t [] p = refl
 plan-is s t (k ∷ ks) p =
-    let m = one_key s in
+    let m = sample_machine s in
     let r = call s k p in
     ap₂ ◌++◌ (moved-is s t k r) (plan-is s (t + made k r) ks r.1)
     ∙ ap (λ (n : ℕ). lists.moved_at m t (view k) r ++ lists.plan_from m (t + n) (map view ks) r.1) (made-is s k r)
@@ -106,9 +106,9 @@ rested-again s (suc m) n p = let e : suc m + n ≡ suc (m + n) = omega arith in 
     once true = refl
     once false = ap (state p.controls p.cells p.registers) (cleared-again s p.scratch)
 
-pub one-laws : (s : List ℕ) → Lawful (one_key s)
+pub sample-laws : (s : List ℕ) → Lawful (sample_machine s)
 unfolding samples
-one-laws s = record {
+sample-laws s = record {
   samples_none = refl;
   samples_add = samples-add s;
   samples_rested = samples-rested s;
@@ -122,4 +122,4 @@ one-laws s = record {
 pub cut : (s : List ℕ) (ks js : List Call) (p : State) → plan s ks p ≡ plan s js p → total s ks p ≡ total s js p
     → ((machine s ks p).0.1 ≡ (machine s js p).0.1) × ((machine s ks p).1 ≡ (machine s js p).1)
 cut s ks js p e d = rw (machine-is s ks p, machine-is s js p)
-    (Cuts.cut (one_key s) (one-laws s) (map view ks) (map view js) p (sym (plan-is s 0 ks p) ∙ e ∙ plan-is s 0 js p) (sym (total-is s ks p) ∙ d ∙ total-is s js p))
+    (Cuts.cut (sample_machine s) (sample-laws s) (map view ks) (map view js) p (sym (plan-is s 0 ks p) ∙ e ∙ plan-is s 0 js p) (sym (total-is s ks p) ∙ d ∙ total-is s js p))

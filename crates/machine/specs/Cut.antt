@@ -66,8 +66,8 @@ check_for s (lists.move (cutoff_to x)) p = room_check s (length p.cells) (length
 abbrev pub in_a_row : lists.Output (List Float) (List Float)
 in_a_row = record { none = []; join = ◌++◌; join_none = λ l. refl; join_assoc = append_assoc; shown = λ l. l; empty = []; also = ◌++◌; shown_none = refl; shown_join = λ a b. refl }
 
-abbrev pub one_key : List ℕ → lists.Machine State (List Float) (List Float) Move
-one_key s = record { output = in_a_row; check = check_for s; samples = samples s; rested = rested s; move_to = move_to s }
+abbrev pub sample_machine : List ℕ → lists.Machine State (List Float) (List Float) Move
+sample_machine s = record { output = in_a_row; check = check_for s; samples = samples s; rested = rested s; move_to = move_to s }
 
 -- a call as one of its calls
 abbrev pub view : Call → lists.Call Move

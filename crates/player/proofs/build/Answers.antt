@@ -1,5 +1,5 @@
 use Rattle.std.specs.Prelude.{◌≡◌}
-use Rattle.std.proofs.Common.{sym, ◌∙◌}
+use Rattle.std.proofs.Common.{◌∙◌}
 use Rattle.std.proofs.lemmas.Result.{err_from_is_err_and, IfOk-at_ok}
 use Rattle.refusal.specs.Refusal.{answer-ok, answer-err, passed-on}
 use Rattle.sheet.specs.Record.{count_of}
@@ -9,6 +9,7 @@ use Rattle.prepare.specs.declared.Ready.{Ready}
 use Rattle.std.proofs.Common.{arith}
 use Rattle.sheet.specs.Accepted.{rows-most}
 use Rattle.calls.specs.Calls.{controls-err, builds-refused}
+use Rattle.player.proofs.Prepared.{ready}
 use Rattle.player.proofs.build.Goals as goal
 
 pub prepare-requires : goal.prepare-requires
@@ -20,15 +21,7 @@ returns-in_err-p c =
     rw (controls-err c.args.c p.1) (builds-refused c.args.sheet.now c.args.c _ _ _ _ (answer-err p.1) (passed-on c.in_err-p.was p.1 p.2 ∙ c.prepare.ensures.answer))
 
 pub begin-requires : goal.begin-requires
-begin-requires c =
-    let p = c.prepare.ensures in (
-      omega arith,
-      (
-        IfOk-at_ok (λ (y : Ready). Made c.args.sheet.now y.count c.prepare.new.t) c.in_ok-p.was p.made,
-        sym p.answer ∙ answer-ok c.in_ok-p.was,
-        IfOk-at_ok (λ (y : Ready). y.scratch ≡ scratch_from c.args.sheet.now (count_of c.args.sheet.now)) c.in_ok-p.was p.scratch,
-      ),
-    )
+begin-requires c = (omega arith, ready c.prepare.ensures c.in_ok-p.was)
 
 pub returns : goal.returns
 returns c = c.begin.ensures

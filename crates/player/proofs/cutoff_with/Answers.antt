@@ -5,6 +5,7 @@ use Rattle.tables.specs.Tables.{Made}
 use Rattle.prepare.specs.declared.Ready.{Ready}
 use Rattle.machine.proofs.Laws.{room-enough, room-passed}
 use Rattle.calls.specs.Calls.{cuts-refused, cuts-all}
+use Rattle.player.proofs.Prepared.{ready}
 use Rattle.player.proofs.cutoff_with.Goals as goal
 
 pub returns-in_err-p : goal.returns-in_err-p
@@ -13,13 +14,12 @@ returns-in_err-p g c =
     cuts-refused c.args.sheet.now c.args.x _ _ _ _ (answer-err p.1) (passed-on c.in_err-p.was p.1 p.2 ∙ c.prepare.ensures.answer)
 
 pub plan-requires : goal.plan-requires
-plan-requires g c = (search rules, IfOk-at_ok (λ (y : Ready). Made c.args.sheet.now y.count c.prepare.new.t) c.in_ok-p.was c.prepare.ensures.made)
+plan-requires g c = (search rules, (ready c.prepare.ensures c.in_ok-p.was).0)
 
 pub set_cutoff-requires : goal.set_cutoff-requires
 set_cutoff-requires g c =
-    let p = c.prepare.ensures in
-    let r = room-enough c.args.sheet.now _ _ _ (room-passed c.args.sheet.now _ _ _ (sym p.answer ∙ answer-ok c.in_ok-p.was)).1 in
+    let r = room-enough c.args.sheet.now _ _ _ (room-passed c.args.sheet.now _ _ _ (ready c.prepare.ensures c.in_ok-p.was).1).1 in
     rw c.plan.ensures r.cells
 
 pub returns : goal.returns
-returns g c = cuts-all c.args.sheet.now c.args.x _ _ _ _ (sym c.prepare.ensures.answer ∙ answer-ok c.in_ok-p.was) (rw c.plan.ensures at c.set_cutoff.ensures)
+returns g c = cuts-all c.args.sheet.now c.args.x _ _ _ _ (ready c.prepare.ensures c.in_ok-p.was).1 (rw c.plan.ensures at c.set_cutoff.ensures)

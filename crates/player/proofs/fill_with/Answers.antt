@@ -7,6 +7,7 @@ use Rattle.layout.specs.Needs.{scratch_from}
 use Rattle.tables.specs.Tables.{Made}
 use Rattle.prepare.specs.declared.Ready.{Ready}
 use Rattle.calls.specs.Calls.{controls-err, fills-room}
+use Rattle.player.proofs.Prepared.{ready}
 use Rattle.player.proofs.fill_with.Goals as goal
 
 pub returns-in_err-p : goal.returns-in_err-p
@@ -15,15 +16,7 @@ returns-in_err-p g c =
     rw (controls-err c.args.c p.1) (fills-room c.args.sheet.now c.args.c _ _ _ _ _ (answer-err p.1) (passed-on c.in_err-p.was p.1 p.2 ∙ c.prepare.ensures.answer))
 
 pub play-requires : goal.play-requires
-play-requires g c =
-    let p = c.prepare.ensures in (
-      search rules,
-      (
-        IfOk-at_ok (λ (y : Ready). Made c.args.sheet.now y.count c.prepare.new.t) c.in_ok-p.was p.made,
-        sym p.answer ∙ answer-ok c.in_ok-p.was,
-        IfOk-at_ok (λ (y : Ready). y.scratch ≡ scratch_from c.args.sheet.now (count_of c.args.sheet.now)) c.in_ok-p.was p.scratch,
-      ),
-    )
+play-requires g c = (search rules, ready c.prepare.ensures c.in_ok-p.was)
 
 pub returns : goal.returns
 returns g c = c.play.ensures
