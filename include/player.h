@@ -1,6 +1,6 @@
 /*
  * The sound core's calls, for a player program. Link crates/library/out/liblibrary.a, which
- * `rt lib` makes in crates/library. Of the C library it wants memcpy, memmove and memset.
+ * `rt lib` makes in crates/library. Of the C library it wants memcpy and memset.
  *
  * A voice is a patch sheet (read only), its controls (a struct that goes in and comes out by value)
  * and three pieces of memory that the player owns and lends for the time of a call: cells, registers

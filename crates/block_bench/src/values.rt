@@ -1,5 +1,5 @@
 // A constant, the values of `value_block`, and Arp, which reads its steps from a sheet, of `value_unit`.
-ghost use Rattle.std.specs.Prelude.{◌≡◌, ◌+◌, ◌*◌, ◌^◌, ◌≤◌, ◌<◌, [], map, length};
+ghost use Rattle.std.specs.Prelude.{◌≡◌, ◌+◌, ◌-◌, ◌*◌, ◌^◌, ◌≤◌, ◌<◌, [], map, length};
 ghost use Rattle.block.specs.Iterate.{given};
 ghost use Rattle.dsl.specs.Options.{curve_of, shape_of};
 ghost use Rattle.value_block.specs.Steps.{slide_step, lfo_step, env_mod_step, rand_step};
@@ -11,7 +11,7 @@ ghost use Rattle.unit.specs.Unit.{kind_unit};
 ghost use Rattle.unit.specs.Block.{steps, Lent};
 ghost use Rattle.block_bench.specs.State.{rand_of, playing};
 
-use sheet::kinds::{Kind, Val};
+use sheet::kinds::{Kind, Src, Val};
 
 #[unsafe(no_mangle)]
 pub extern "C" fn block_constant(out: &mut [f32], x: f32)
@@ -110,7 +110,7 @@ pub extern "C" fn block_rand(
 
 // The kind of each of the n records, as the sheet numbers it.
 fn copy_kinds(sheet: &[u8], n: usize, kinds: &mut [u8])
-    requires { (24 + 40 * n ≤ length sheet.now) × (n ≤ 256) × (n ≤ length kinds.old) }
+    requires { (40 * n ≤ length sheet.now - 24) × (n ≤ 256) × (n ≤ length kinds.old) }
     ensures { Below (kind sheet.now) kinds.old kinds.new n }
 {
     for i in 0..n {
@@ -120,7 +120,7 @@ fn copy_kinds(sheet: &[u8], n: usize, kinds: &mut [u8])
 }
 
 // With a table for the kinds themselves, of which it takes as many as there are numbers, 256 at most. There is no heap, so its caller
-// makes it, of fixed length.
+// makes it, of fixed length. Checks 1 and 2 come before any record; after the others all three tables are filled, whatever the answer.
 fn check_in(
     sheet: &[u8],
     table: &mut [Kind],
@@ -133,11 +133,12 @@ fn check_in(
 {
     let n = kinds.len().min(256);
     let answer = refusal::answer(checks::check(sheet, &mut table[..n], first, next));
-    if answer != 0 {
+    if (answer == 1) | (answer == 2) {
         return answer;
     }
-    copy_kinds(sheet, sheet::count(sheet), kinds);
-    0
+    let records = sheet.len().saturating_sub(24) / 40;
+    copy_kinds(sheet, records.min(n), kinds);
+    answer
 }
 
 // The checks of a sheet, for `block_arp`: where they find no fault, 0, next is its table. C has no `Kind`, so the kinds are their numbers.
@@ -151,7 +152,7 @@ pub extern "C" fn block_check(
     requires { Rows sheet.now (length kinds.old) × (length kinds.old ≤ length first.old) × (length kinds.old ≤ length next.old) }
     ensures { Checked sheet.now kinds.new first.new next.new result }
 {
-    let mut table = [Kind::Step; 256];
+    let mut table = [Kind::Src(Src::Sine); 256];
     check_in(sheet, &mut table, kinds, first, next)
 }
 

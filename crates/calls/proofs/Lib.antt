@@ -1,2 +1,2 @@
-mod ByNumber
+pub mod ByNumber
 pub mod Players

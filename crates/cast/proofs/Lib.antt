@@ -1,3 +1,4 @@
+pub mod Far
 pub mod Narrow
 pub mod Normal
 pub mod Small

@@ -87,7 +87,7 @@ kept y F P a b =
     let g = by_field y e t a b s.1 in
     let j = g.0 in
     let Q = closest (2 ^ 52 + t) (2 ^ 29) in
-    let r : Rounds y (2 ^ 52 + t) (e - 897) = large y e t h (from e j g.1 g.2) (to e j g.1 g.3) s.1 in
+    let r : Rounds y (2 ^ 52 + t) 29 (e - 897) = large y e t h (from e j g.1 g.2) (to e j g.1 g.3) s.1 in
     let lo : 2 ^ 23 ≤ Q = subst (λ (z : ℕ). 2 ^ 23 ≤ z) (sym (with_lead t)) (least (closest t (2 ^ 29))) in
     let same : closest B (2 ^ 29) * 2 ^ 29 ≡ j * 2 ^ 52 + Q * 2 ^ 29 = ap (λ (z : ℕ). z * 2 ^ 29) (rounded B) ∙ join e j (closest t (2 ^ 29)) g.1 ∙ ap (λ (z : ℕ). j * 2 ^ 52 + z * 2 ^ 29) (sym (with_lead t)) in
     let wide : units binary64 false (Q * 2 ^ 29) j ≡ units binary32 false Q (e - 897) = widened Q j (e - 897) r.small g.3 (shift e j g.1 g.2) in
@@ -240,7 +240,7 @@ neg-neg (inf false) = refl
 neg-neg (fin true m e) = refl
 neg-neg (fin false m e) = refl
 
-bits-neg : (x : Float) → T (lt x null) → to_bits binary64 x ≡ 2 ^ 63 + to_bits binary64 (neg x)
+pub bits-neg : (x : Float) → T (lt x null) → to_bits binary64 x ≡ 2 ^ 63 + to_bits binary64 (neg x)
 unfolding to_bits neg lt
 bits-neg nan h = absurd h
 bits-neg (inf true) h = refl
@@ -252,7 +252,7 @@ bits-neg (fin true m e) h = go _ _
     go a b = omega arith
 
 -- the field of a pattern b below 2 ^ 63 and of 2 ^ 63 + b
-abbrev field : ℕ → ℕ
+abbrev pub field : ℕ → ℕ
 field b = b / 2 ^ 52 % 2048
 
 above : (x : Float) → T (fits binary64 x) → T (lt null x) → 896 < field (to_bits binary64 x) → field (to_bits binary64 x) < 1150 → Normal x
@@ -324,7 +324,7 @@ below x F N a b =
         back : (q : ℕ) → (q + 8589934592 * 2) * 536870912 ≡ 9223372036854775808 + q * 536870912
         back q = omega arith
 
-zero_field : (s : Bool) → field (to_bits binary64 (fin s 0 (pos 0))) ≡ 0
+pub zero_field : (s : Bool) → field (to_bits binary64 (fin s 0 (pos 0))) ≡ 0
 unfolding to_bits
 zero_field true = refl
 zero_field false = refl

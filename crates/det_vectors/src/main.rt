@@ -6,13 +6,13 @@ mod kernels;
 
 use kernels::{double_sections, single_sections};
 use std::io;
-use std::io::{BufReader, BufWriter};
+use std::io::BufReader;
 use vectors::AnswerFile;
 
 fn main(rt: HostRuntime) -> io::Result<()> {
     let input = BufReader::new(rt.alloc(), rt.stdin())?;
-    let output = BufWriter::new(rt.alloc(), rt.stdout())?;
-    let mut file = AnswerFile::new(input, output);
+    // Each line is written as soon as it is known, so that a write that fails ends the program there.
+    let mut file = AnswerFile::new(input, rt.stdout());
     double_sections(&mut file)?;
     single_sections(&mut file)?;
     file.end()?;

@@ -12,13 +12,13 @@ mod of_value;
 mod words;
 
 use std::io;
-use std::io::{BufReader, BufWriter};
+use std::io::BufReader;
 use vectors::AnswerFile;
 
 fn main(rt: HostRuntime) -> io::Result<()> {
     let input = BufReader::new(rt.alloc(), rt.stdin())?;
-    let output = BufWriter::new(rt.alloc(), rt.stdout())?;
-    let mut file = AnswerFile::new(input, output);
+    // Each line is written as soon as it is known, so that a write that fails ends the program there.
+    let mut file = AnswerFile::new(input, rt.stdout());
     of_dsp::generators(&mut file)?;
     of_dsp::coefficients(&mut file)?;
     of_lines::lengths(&mut file)?;

@@ -65,7 +65,10 @@ fn drawn(out: f32, state: u64, left: &[f32]) -> Answers {
     for (word, x) in words[3..].iter_mut().zip(left) {
         *word = of_single(*x);
     }
-    Answers { words }
+    Answers {
+        words,
+        count: 3 + left.len().min(17),
+    }
 }
 
 fn rng_of(x: Operands) -> Rng {

@@ -4,4 +4,4 @@ pub mod Played
 pub mod Laws
 pub mod Tables
 pub mod Within
-mod ByNumber
+pub mod ByNumber

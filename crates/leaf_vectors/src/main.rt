@@ -6,13 +6,13 @@ mod leaves;
 
 use leaves::{cast_sections, float_sections, last_sections};
 use std::io;
-use std::io::{BufReader, BufWriter};
+use std::io::BufReader;
 use vectors::AnswerFile;
 
 fn main(rt: HostRuntime) -> io::Result<()> {
     let input = BufReader::new(rt.alloc(), rt.stdin())?;
-    let output = BufWriter::new(rt.alloc(), rt.stdout())?;
-    let mut file = AnswerFile::new(input, output);
+    // Each line is written as soon as it is known, so that a write that fails ends the program there.
+    let mut file = AnswerFile::new(input, rt.stdout());
     float_sections(&mut file)?;
     cast_sections(&mut file)?;
     last_sections(&mut file)?;

@@ -60,5 +60,8 @@ pub fn scratch_take(out: &mut [f32], scr: &[f32], at: usize)
     ensures { out.new ≡ mid at (length out.old) scr.now }
 {
     let e = at + out.len();
-    out.copy_from_slice(&scr[at..e]);
+    // A loop in place of copy_from_slice, of which the compiler makes a call of memmove in the walk: the library is to want no more of the
+    // C library than memcpy and memset.
+    let x = &scr[at..e];
+    block::run_block(out, (), |k, s, _| (x[k], s));
 }

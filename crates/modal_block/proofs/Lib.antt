@@ -1,1 +1,1 @@
-mod Fours
+pub mod Fours

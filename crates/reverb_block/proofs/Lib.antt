@@ -1,2 +1,2 @@
 pub mod Inside
-mod Copied
+pub mod Copied

@@ -7,9 +7,9 @@ ghost use Rattle.std.specs.Prelude.{◌≡◌, ◌+◌, ◌*◌, ◌≤◌, ◌<
 ghost use Rattle.sheet.specs.Bytes.{u16_at, u32_at, u64_at};
 ghost use Rattle.sheet.specs.Record.{count_of, rate_of, length_of, path_of, kind_of, option_of, first_of, next_of, bits_of, number_of, seed_of, record_at};
 ghost use Rattle.sheet.specs.Numbers.{Numbered, val_number};
-ghost use Rattle.sheet.specs.Value.{adsr_in, value_as};
+ghost use Rattle.sheet.specs.Value.{adsr_in, value_as, value_of};
 
-use kinds::{Entry, Val};
+use kinds::{Entry, Kind, Val};
 use std::marker::Model;
 
 // Two, four and eight bytes as a number, the lowest first; by a place, since a part of the slice would be cut for one read.
@@ -225,6 +225,19 @@ impl<'a> Record<'a> {
                 to: self.number(1),
                 rate: self.number(2),
             }),
+        }
+    }
+
+    // The same by the record's own kind. One whose kind is no value's, or no kind's, is read as a Const, so that this asks nothing of a record.
+    pub fn read_value(&self) -> Value
+        ensures { result ≡ value_of self.now }
+    {
+        let Some(e) = self.entry() else {
+            return self.value(Val::Const);
+        };
+        match e.kind {
+            Kind::Val(val) => self.value(val),
+            _ => self.value(Val::Const),
         }
     }
 }

@@ -1,6 +1,7 @@
 -- The tables that an accepted sheet leaves.
 use Rattle.std.specs.Prelude.{false, List, ℕ, replicate}
-use Rattle.sheet.specs.declared.kinds.Kind.TheVariants.{Step}
+use Rattle.sheet.specs.declared.kinds.Kind.TheVariants.{Src}
+use Rattle.sheet.specs.declared.kinds.Src.TheVariants.{Sine}
 use Rattle.sheet.specs.Numbers.{numbers_of}
 use Rattle.sheet.specs.Record.{first}
 use Rattle.layout.specs.declared.Role.TheVariants.{Out}
@@ -9,7 +10,7 @@ use Rattle.plan.specs.Planned.{Planned}
 use Rattle.tables.specs.declared.Tables.{Tables}
 
 abbrev pub blank : {N M : ℕ} → Tables N M
-blank {N} {M} = record { kinds = replicate N Step; firsts = replicate N 0; nexts = replicate N 0; lasts = replicate N false; acts = replicate N Out; begins = replicate N 0; afters = replicate N 0; places = replicate M 0; words = replicate M 0; blocks = replicate M 0 }
+blank {N} {M} = record { kinds = replicate N (Src Sine); firsts = replicate N 0; nexts = replicate N 0; lasts = replicate N false; acts = replicate N Out; begins = replicate N 0; afters = replicate N 0; places = replicate M 0; words = replicate M 0; blocks = replicate M 0 }
 
 pub record Made {N M : ℕ} (s : List ℕ) (count : ℕ) (t : Tables N M) : Type 0 where
   pub first_at : Table (first s) count t.firsts

@@ -13,7 +13,7 @@ use layout::{Links, Role};
 use offsets::Needs;
 use plan::Plan;
 use refusal::Refusal;
-use sheet::kinds::Kind;
+use sheet::kinds::{Kind, Src};
 
 // The tables of a sheet of at most N records, lent for a call. M is N + 1: the places of memory end with a last one past all records.
 // A const argument can't be computed, so M stands beside N, and who lends them asks that it is more.
@@ -36,7 +36,7 @@ impl<const N: usize, const M: usize> Tables<N, M> {
         ensures { result ≡ blank }
     {
         Tables {
-            kinds: [Kind::Step; N],
+            kinds: [Kind::Src(Src::Sine); N],
             firsts: [0; N],
             nexts: [0; N],
             lasts: [false; N],

@@ -8,7 +8,7 @@ ghost use Rattle.std.specs.Io.KnownBytes.{IsAtEnd};
 ghost use Rattle.std.specs.Float.Ieee as Ieee;
 ghost use Rattle.std.specs.Float.{binary32, binary64};
 ghost use Rattle.std.specs.Int.{from_bool};
-ghost use Rattle.vectors.specs.Words.{width_of, words_of};
+ghost use Rattle.vectors.specs.Words.{width_of, Answered, answer_at};
 
 use console::{next_bytes, read_full, say_hex};
 use std::io;
@@ -45,14 +45,27 @@ pub struct Shape {
 // The words of a case. One that the case lacks is 0.
 pub type Operands = [u64; 20];
 
-// What a function answers to a case. A word that it lacks is 0.
+// What a function answers to a case, and how many words that are.
 #[derive(Clone, Copy)]
 pub struct Answers {
     pub words: [u64; 20],
+    pub count: usize,
+}
+
+impl Answers {
+    // The answer of this number. A header may say that a case has more answers than the function gives: the last one stands for those too.
+    #[tactic(auto, unfolding(crate::specs::Words::answer_at))]
+    pub fn at(&self, index: u8) -> u64
+        ensures { result ≡ answer_at self.now.words self.now.count index }
+    {
+        let last = self.count.saturating_sub(1);
+        let place = usize::from(index).min(last);
+        self.words.get(place).copied().unwrap_or(0)
+    }
 }
 
 impl From<u64> for Answers {
-    ghost from_gives = { λ word r. r.words ≡ words_of (word ∷ []) };
+    ghost from_gives = { λ word r. Answered r.words r.count (word ∷ []) };
 
     fn from(word: u64) -> Answers {
         Answers::from([word])
@@ -60,7 +73,7 @@ impl From<u64> for Answers {
 }
 
 impl From<bool> for Answers {
-    ghost from_gives = { λ x r. r.words ≡ words_of (from_bool x ∷ []) };
+    ghost from_gives = { λ x r. Answered r.words r.count (from_bool x ∷ []) };
 
     fn from(x: bool) -> Answers {
         Answers::from([u64::from(x)])
@@ -68,7 +81,7 @@ impl From<bool> for Answers {
 }
 
 impl From<f32> for Answers {
-    ghost from_gives = { λ x r. r.words ≡ words_of (Ieee.to_bits binary32 x ∷ []) };
+    ghost from_gives = { λ x r. Answered r.words r.count (Ieee.to_bits binary32 x ∷ []) };
 
     fn from(x: f32) -> Answers {
         Answers::from([of_single(x)])
@@ -76,7 +89,7 @@ impl From<f32> for Answers {
 }
 
 impl From<f64> for Answers {
-    ghost from_gives = { λ x r. r.words ≡ words_of (Ieee.to_bits binary64 x ∷ []) };
+    ghost from_gives = { λ x r. Answered r.words r.count (Ieee.to_bits binary64 x ∷ []) };
 
     fn from(x: f64) -> Answers {
         Answers::from([std::num::f64_to_bits_with_nan(x)])
@@ -84,18 +97,21 @@ impl From<f64> for Answers {
 }
 
 impl<const N: usize> From<[u64; N]> for Answers {
-    ghost from_gives = { λ xs r. r.words ≡ words_of xs };
+    ghost from_gives = { λ xs r. Answered r.words r.count xs };
 
     fn from(xs: [u64; N]) -> Answers {
         let mut words = [0; 20];
         let given = N.min(20);
         words[..given].copy_from_slice(&xs[..given]);
-        Answers { words }
+        Answers {
+            words,
+            count: given,
+        }
     }
 }
 
 impl<const N: usize> From<[f32; N]> for Answers {
-    ghost from_gives = { λ xs r. r.words ≡ words_of (map (Ieee.to_bits binary32) xs) };
+    ghost from_gives = { λ xs r. Answered r.words r.count (map (Ieee.to_bits binary32) xs) };
 
     fn from(xs: [f32; N]) -> Answers {
         let mut words = [0; 20];
@@ -103,7 +119,10 @@ impl<const N: usize> From<[f32; N]> for Answers {
         for (i, x) in xs[..N.min(20)].iter().enumerate() {
             words[i] = of_single(*x);
         }
-        Answers { words }
+        Answers {
+            words,
+            count: N.min(20),
+        }
     }
 }
 
@@ -246,8 +265,7 @@ fn after_case<A: Into<Answers>, F: Fn(Operands) -> A>(
         let Some(expected) = next_word(input, shape)? else {
             return Ok(None);
         };
-        let got = answers.words.get(usize::from(index)).copied().unwrap_or(0);
-        after.count(index, operands, expected, got);
+        after.count(index, operands, expected, answers.at(index));
     }
     Ok(Some(after))
 }

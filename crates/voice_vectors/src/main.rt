@@ -17,6 +17,9 @@ use std::{fmt, io};
 // The most bytes that a sheet has.
 const LONGEST: usize = 10264;
 
+// The most calls that a case has.
+const MOST_CALLS: usize = 64;
+
 // ---- what is compared
 
 // A hash, and what it must be.
@@ -86,15 +89,22 @@ struct Head {
     state: Option<u64>,
 }
 
+// The calls of a case, and the sum of the lengths that stand beside them in the file: a move has one too.
+#[derive(Drop)]
+struct Script {
+    calls: Vec<Call>,
+    length: u64,
+}
+
 // A voice that is to be played.
 #[derive(Drop)]
 struct Case {
     head: Head,
     sheet: Vec<u8>,
-    calls: Vec<Call>,
+    script: Script,
 }
 
-// What comes next in the input. After a case that is cut short, or whose sheet is longer than any, it is not known where the next one starts.
+// What comes next in the input. After a case that is cut short, or whose sheet or calls are more than any has, it is not known where the next one starts.
 #[derive(Drop)]
 enum Next {
     Case(Case),
@@ -118,32 +128,39 @@ fn head_of(bytes: &[u8]) -> Option<Head> {
 }
 
 // The kind, which is the file's number and is read here only, three bytes of no use, the two floats and the length.
-fn call_of(bytes: &[u8]) -> Option<Call> {
+fn call_of(bytes: &[u8]) -> Option<(Call, u32)> {
     let (kind, rest) = bytes.split_first_chunk::<4>()?;
     let (x, rest) = rest.split_first_chunk()?;
     let (y, length) = rest.split_first_chunk()?;
     let x = float::from_bits(u32::from_le_bytes(*x));
-    match kind[0] {
-        0 => Some(Call::Fill(u32::from_le_bytes(*length.first_chunk()?) as usize)),
-        1 => Some(Call::Pitch {
+    let length = u32::from_le_bytes(*length.first_chunk()?);
+    let call = match kind[0] {
+        0 => Call::Fill(length as usize),
+        1 => Call::Pitch {
             scale: x,
             coefficient: float::from_bits(u32::from_le_bytes(*y)),
-        }),
-        2 => Some(Call::Bend(x)),
-        _ => Some(Call::Cutoff(x)),
-    }
+        },
+        2 => Call::Bend(x),
+        _ => Call::Cutoff(x),
+    };
+    Some((call, length))
 }
 
 // The next calls, or `None` where not all come whole.
-fn next_calls(input: &mut impl Read, count: usize, alloc: Global) -> io::Result<Option<Vec<Call>>> {
+fn next_calls(input: &mut impl Read, count: usize, alloc: Global) -> io::Result<Option<Script>> {
     let mut calls = Vec::new(alloc);
+    let mut total: u64 = 0;
     for _ in 0..count {
-        let Some(call) = next_bytes::<_, 16>(input)?.and_then(|b| call_of(&b)) else {
+        let Some((call, length)) = next_bytes::<_, 16>(input)?.and_then(|b| call_of(&b)) else {
             return Ok(None);
         };
         calls.push(call)?;
+        total = total.saturating_add(u64::from(length));
     }
-    Ok(Some(calls))
+    Ok(Some(Script {
+        calls,
+        length: total,
+    }))
 }
 
 fn next_case(input: &mut impl BufRead, alloc: Global) -> io::Result<Next> {
@@ -153,17 +170,21 @@ fn next_case(input: &mut impl BufRead, alloc: Global) -> io::Result<Next> {
     let Some(head) = next_bytes::<_, 32>(input)?.and_then(|b| head_of(&b)) else {
         return Ok(Next::Cut);
     };
-    if LONGEST < head.sheet {
+    if LONGEST < head.sheet || MOST_CALLS < head.calls {
         return Ok(Next::Cut);
     }
     let mut sheet = vec![in alloc; 0u8; head.sheet]?;
     if read_full(input, sheet.as_mut_slice())? < head.sheet {
         return Ok(Next::Cut);
     }
-    let Some(calls) = next_calls(input, head.calls, alloc)? else {
+    let Some(script) = next_calls(input, head.calls, alloc)? else {
         return Ok(Next::Cut);
     };
-    Ok(Next::Case(Case { head, sheet, calls }))
+    Ok(Next::Case(Case {
+        head,
+        sheet,
+        script,
+    }))
 }
 
 // ---- one case
@@ -241,16 +262,19 @@ fn sound_of(calls: &[Call], out: &[f32]) -> Sound
 }
 
 impl Case {
-    // Builds the voice at its position, and makes its calls, of which each must be accepted. `None` where one is not. The answers are
-    // the machine's numbers, as `performance::play` writes them; here each is only compared with 0.
+    // Builds the voice at its position, and makes its calls, of which each must be accepted. `None` where one is not, or where their lengths are more than
+    // there is room for. The answers are the machine's numbers, as `performance::play` writes them; here each is only compared with 0.
     fn play(&self, answers: &mut [u8], memory: &mut Memory) -> Result<Option<Played>, Refusal> {
         let sheet = self.sheet.as_slice();
-        let calls = self.calls.as_slice();
+        let calls = self.script.calls.as_slice();
         let out = memory.out.as_mut_slice();
         let cells = memory.cells.as_mut_slice();
         let registers = memory.registers.as_mut_slice();
         let scratch = memory.scratch.as_mut_slice();
         let built = player::build(sheet, Controls::fresh(), cells, registers, scratch)?;
+        if (out.len() as u64) < self.script.length {
+            return Ok(None);
+        }
         let c = Controls {
             position: self.head.position,
             ..built
@@ -335,7 +359,7 @@ fn run_all(input: &mut impl BufRead, alloc: Global) -> io::Result<Run> {
     for _ in 0..u64::MAX {
         match next_case(input, alloc)? {
             Next::Case(case) => {
-                let mut answers = vec![in alloc; 0u8; case.calls.len()]?;
+                let mut answers = vec![in alloc; 0u8; case.script.calls.len()]?;
                 let played = case.play(answers.as_mut_slice(), &mut memory);
                 run.count(played.unwrap_or(None));
             }

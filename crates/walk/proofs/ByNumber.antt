@@ -1,19 +1,34 @@
--- Laws of kinds and of roles by their numbers, and of what a record's own function is lent. No function asks for them since a kind and a role are enums
--- and a plan holds the tables; they stand since the definitions are over numbers, and since any block may be lent.
-use Rattle.std.specs.Prelude.{◌≡◌, refl, Bool, true, false, ◌||◌, List, ◌≢◌, ℕ, ◌≤◌, ◌<◌, eqb, leb, Float}
-use Rattle.std.proofs.Common.{sym, ap, ◌∙◌, arith, eq-eqb, leb-true}
+-- Laws of kinds and of roles by their numbers, of what a record's own function is lent, and of the loops along a chain. No function asks for them since
+-- a kind and a role are enums, a plan holds the tables, and a loop keeps besides what the walk was lent; they stand since the definitions are over
+-- numbers, and since any block may be lent.
+use Rattle.std.specs.Prelude.{◌≡◌, refl, Bool, true, false, ◌||◌, List, map, ◌≢◌, ℕ, ◌+◌, ◌-◌, ◌≤◌, ◌<◌, eqb, leb, get_or, take, drop, length, Float}
+use Rattle.std.proofs.Common.{sym, ap, ◌∙◌, arith, eq-eqb, leb-true, length-take}
+use Rattle.std.proofs.Math.ListN.{length-drop}
+use Rattle.std.proofs.Math.Seq.{length-take-le}
+use Rattle.tree.specs.Comm.{zip}
+use Rattle.tree.specs.Tree.{piping, joining}
+use Rattle.tree.specs.Lists.{zip_length}
+use Rattle.block.specs.Patch.{along}
 use Rattle.control.specs.declared.Controls.{Controls}
 use Rattle.sheet.specs.Record.{count_of, kind}
-use Rattle.sheet.specs.Kinds.{is_fold, is_value}
-use Rattle.sheet.specs.Laws.{never, both}
-use Rattle.layout.specs.Built.{role, is_built}
+use Rattle.sheet.specs.Kinds.{nodes, row_of, is_fold, is_value}
+use Rattle.sheet.specs.Laws.{sum-suc, never, both}
+use Rattle.layout.specs.Built.{role, is_built, begin, after}
 use Rattle.layout.specs.declared.Role.{Role}
 use Rattle.layout.specs.declared.Role.TheVariants.{Out, Silent, Built}
+use Rattle.layout.specs.Needs.{cells, registers, scratch, cells_by, registers_by, cells_from, registers_from, scratch_from}
 use Rattle.layout.specs.Good.{good}
-use Rattle.layout.specs.Tables.{role_code}
+use Rattle.layout.specs.Tables.{Table, Passed, role_code}
+use Rattle.layout.specs.Counts.{cells-built, registers-built}
 use Rattle.layout.proofs.Contents.{Value}
+use Rattle.layout.proofs.Laws.{playable}
+use Rattle.unit.specs.Own.{silence}
+use Rattle.unit.specs.Voice.{voice, join_of}
+use Rattle.unit.specs.Block.{Lent}
 use Rattle.units.specs.Values.{has_unit}
-use Rattle.walk.specs.Walk.{Voiced, Ready, Owned, Lends, Valued}
+use Rattle.mixer.specs.Part.{mid, put}
+use Rattle.walk.specs.Nodes.{Member, begin-member, after-member}
+use Rattle.walk.specs.Walk.{Sound, Voiced, Ready, Owned, Lends, Valued, Kept, Sourced, Chained, Mixed, sound-after, kept-all, kept_then, kept_less, kept-mid, mid-put, put-kept, chain-turn, mix-turn, along-end, entered-nodes, begin-below, after-below, scratch-up}
 
 -- ---- kinds and roles by their numbers
 pub value-kinds : (k : ℕ) → is_value k ≡ true → (41 ≤ k) × (k ≤ 46)
@@ -48,3 +63,197 @@ lends-unit r i h b u p q = record { owned = owned-of i h b; unit_is = u; pitched
 pub lends-value : {s : List ℕ} {c : Controls} {pitch : List Float} {n nv nw : ℕ} (v : Voiced s) → Ready c pitch n nv nw
     → (i j k : ℕ) → j ≡ k → Value s (good s v.passed.passed) i k → {m : ℕ} → m ≡ n → Valued s j c m
 lends-value v r i j k e w q = rw (e, q) (record { owned = owned-of k w.in_sheet w.made; value_is = w.value; early = r.early })
+
+-- ---- a record's own parts, and the scratch, by the tables
+pub record Parts (s places words : List ℕ) (i nc nr : ℕ) : Type 0 where
+  pub ca : get_or places i 0 ≡ cells_from s i
+  pub ce : get_or places (i + 1) 0 ≡ cells_from s (i + 1)
+  pub ra : get_or words i 0 ≡ registers_from s i
+  pub re : get_or words (i + 1) 0 ≡ registers_from s (i + 1)
+  pub cup : get_or places i 0 ≤ get_or places (i + 1) 0
+  pub cin : get_or places (i + 1) 0 ≤ nc
+  pub cn : get_or places (i + 1) 0 - get_or places i 0 ≡ cells_by s i
+  pub rup : get_or words i 0 ≤ get_or words (i + 1) 0
+  pub rin : get_or words (i + 1) 0 ≤ nr
+  pub rn : get_or words (i + 1) 0 - get_or words i 0 ≡ registers_by s i
+
+-- who is lent the tables of an accepted sheet needs no row of a plan
+pub parts-of : {s : List ℕ} {count : ℕ} {places words : List ℕ} {i : ℕ} → Passed s count → Table (cells_from s) (count + 1) places → Table (registers_from s) (count + 1) words → Owned s i
+    → {cs : List Float} {rs : List ℕ} → Sound s cs rs → Parts s places words i (length cs) (length rs)
+parts-of {s} {i = i} p cells_at registers_at o {cs} {rs} a =
+    let h = p.count in
+    let q = o.inside in
+    let room = a.room i q in
+    let ca = cells_at.at i (omega arith) in
+    let ce = cells_at.at (i + 1) (omega arith) in
+    let ra = registers_at.at i (omega arith) in
+    let re = registers_at.at (i + 1) (omega arith) in
+    let sc : cells_from s (i + 1) ≡ cells_from s i + cells s i = sum-suc (cells s) i in
+    let sr : registers_from s (i + 1) ≡ registers_from s i + registers s i = sum-suc (registers s) i in
+    let bc = cells-built s i o.built_is in
+    let br = registers-built s i o.built_is in
+    record {
+      ca = ca;
+      ce = ce;
+      ra = ra;
+      re = re;
+      cup = omega arith;
+      cin = omega (arith, room.0);
+      cn = omega arith;
+      rup = omega arith;
+      rin = omega (arith, room.1);
+      rn = omega arith;
+    }
+
+abbrev pub part : {A : Type 0} → List ℕ → ℕ → List A → List A
+part t i xs = take (get_or t (i + 1) 0 - get_or t i 0) (drop (get_or t i 0) xs)
+
+pub lent_of : {s : List ℕ} {count : ℕ} {places words : List ℕ} {i : ℕ} → Passed s count → Table (cells_from s) (count + 1) places → Table (registers_from s) (count + 1) words → Owned s i
+    → {cs : List Float} {rs : List ℕ} → Sound s cs rs → {k : ℕ} → k ≡ kind s i → Lent s i k (length (part places i cs)) (length (part words i rs))
+lent_of p cells_at registers_at o a e =
+    let w = parts-of p cells_at registers_at o a in
+    record {
+      passed = p.passed;
+      inside = o.inside;
+      kind_is = e;
+      cells = simp (length-take, length-drop) (omega (arith, w.cin, w.cup, w.cn));
+      registers = simp (length-take, length-drop) (omega (arith, w.rin, w.rup, w.rn));
+    }
+
+pub record Scratch (s : List ℕ) (count : ℕ) (blocks : List ℕ) (n : ℕ) : Type 0 where
+  pub scratch_at : Table (scratch_from s) (count + 1) blocks
+  pub room : scratch_from s (count_of s) ≤ n
+
+pub scratch-same : {s : List ℕ} {count : ℕ} {blocks : List ℕ} {n : ℕ} → Scratch s count blocks n → {m : ℕ} → m ≡ n → Scratch s count blocks m
+scratch-same r p = rw p r
+
+-- ---- the loops along a chain, whatever the pitch, the position and the buffers are: the lengths, and what is sound, as a loop goes along. A Chain's
+-- block may have any length, and that of a Mix or a Mul any that its block of scratch holds.
+pub record Chaining (s : List ℕ) (i : ℕ) (c : Controls) (xs cs : List Float) (rs : List ℕ) (zs : List Float) (nv nw : ℕ) (ys ds : List Float) (ss : List ℕ) (ws : List Float) (mv mw j : ℕ) : Type 0 where
+  pub outs : length ys ≡ length xs
+  pub cells_long : length ds ≡ length cs
+  pub registers_long : length ss ≡ length rs
+  pub scr : length ws ≡ length zs
+  pub first_buffer : mv ≡ nv
+  pub second_buffer : mw ≡ nw
+  pub sound : Sound s ds ss
+  pub member : j ≢ 0 → Member s i j
+  pub above : j ≢ 0 → i < j
+  pub inside : j < count_of s
+  pub is : along (voice s) j piping c ys (ds, ss) ≡ along (voice s) (begin s i) piping c xs (cs, rs)
+  pub kept : Kept s (scratch_from s i) zs ws
+
+module _ {s : List ℕ} (v : Voiced s) where
+  pub chain-start : (i : ℕ) → i < count_of s → (row_of (kind s i)).chain ≡ nodes → (c : Controls) (xs cs : List Float) (rs : List ℕ) (zs : List Float) (nv nw : ℕ) → Sound s cs rs → Chaining s i c xs cs rs zs nv nw xs cs rs zs nv nw (begin s i)
+  chain-start i h e c xs cs rs zs nv nw a = record {
+    outs = refl;
+    cells_long = refl;
+    registers_long = refl;
+    scr = refl;
+    first_buffer = refl;
+    second_buffer = refl;
+    sound = a;
+    member = begin-member s (good s v.passed.passed) i h e;
+    above = (playable s v.passed.passed).forest.first_up i;
+    inside = begin-below v.passed i;
+    is = refl;
+    kept = kept-all s (scratch_from s i) zs;
+  }
+
+  pub chain-again : (i : ℕ) → i < count_of s → (row_of (kind s i)).chain ≡ nodes → (c : Controls) (xs cs : List Float) (rs : List ℕ) (zs : List Float) (nv nw : ℕ) (ys ds : List Float) (ss : List ℕ) (ws : List Float) (mv mw j : ℕ) (ys' ds' : List Float) (ss' : List ℕ) (ws' : List Float) (mv' mw' : ℕ)
+      → Chaining s i c xs cs rs zs nv nw ys ds ss ws mv mw j → j ≢ 0 → Sourced s j c ys ds ss ws ys' ds' ss' ws'
+      → length ys' ≡ length ys → length ds' ≡ length ds → length ss' ≡ length ss → length ws' ≡ length ws → mv' ≡ mv → mw' ≡ mw
+      → Chaining s i c xs cs rs zs nv nw ys' ds' ss' ws' mv' mw' (after s j)
+  chain-again i hi e c xs cs rs zs nv nw ys ds ss ws mv mw j ys' ds' ss' ws' mv' mw' l d r e1 e2 e3 e4 e5 e6 =
+      let up = l.above d in
+      record {
+        outs = e1 ∙ l.outs;
+        cells_long = e2 ∙ l.cells_long;
+        registers_long = e3 ∙ l.registers_long;
+        scr = e4 ∙ l.scr;
+        first_buffer = e5 ∙ l.first_buffer;
+        second_buffer = e6 ∙ l.second_buffer;
+        sound = sound-after v j l.inside c ys ds ss ys' ds' ss' l.sound r.is;
+        member = after-member s (good s v.passed.passed) i j hi e (l.member d);
+        above = λ h. omega (arith, up, (playable s v.passed.passed).forest.next_up j h);
+        inside = after-below v.passed j;
+        is = chain-turn s v.valid j d l.inside c ys ds ss ys' ds' ss' r.is ∙ l.is;
+        kept = kept_then l.kept (kept_less r.kept (scratch_from s i) (omega (arith, scratch-up v i j up)));
+      }
+
+  pub chain-end : (i : ℕ) (c : Controls) (xs cs : List Float) (rs : List ℕ) (zs : List Float) (nv nw : ℕ) (ys ds : List Float) (ss : List ℕ) (ws : List Float) (mv mw j : ℕ)
+      → (row_of (kind s i)).chain ≡ nodes → Chaining s i c xs cs rs zs nv nw ys ds ss ws mv mw j → j ≡ 0 → Chained s i c xs cs rs zs ys ds ss ws
+  chain-end i c xs cs rs zs nv nw ys ds ss ws mv mw j q l e = record { is = along-end s piping c ys ds ss ∙ rw (e, ← entered-nodes s i q) at l.is; kept = l.kept }
+
+pub record Mixing (s : List ℕ) (i : ℕ) (c : Controls) (xs cs : List Float) (rs : List ℕ) (zs : List Float) (nv nw : ℕ) (ys ds : List Float) (ss : List ℕ) (ws : List Float) (mv mw j : ℕ) : Type 0 where
+  pub outs : length ys ≡ length xs
+  pub cells_long : length ds ≡ length cs
+  pub registers_long : length ss ≡ length rs
+  pub scr : length ws ≡ length zs
+  pub first_buffer : mv ≡ nv
+  pub second_buffer : mw ≡ nw
+  pub sound : Sound s ds ss
+  pub member : j ≢ 0 → Member s i j
+  pub above : j ≢ 0 → i < j
+  pub inside : j < count_of s
+  pub is : along (voice s) j (joining (join_of (kind s i))) c (mid (scratch_from s i) (length xs) ws) (ds, ss) ≡ along (voice s) (begin s i) (joining (join_of (kind s i))) c (mid (scratch_from s i) (length xs) zs) (cs, rs)
+  pub kept : Kept s (scratch_from s i) zs ws
+
+module _ {s : List ℕ} (v : Voiced s) where
+  pub mix-start : (i : ℕ) → i < count_of s → (row_of (kind s i)).chain ≡ nodes → (c : Controls) (xs cs : List Float) (rs : List ℕ) (zs : List Float) (nv nw : ℕ) → Sound s cs rs → Mixing s i c xs cs rs zs nv nw xs cs rs zs nv nw (begin s i)
+  mix-start i h e c xs cs rs zs nv nw a = record {
+    outs = refl;
+    cells_long = refl;
+    registers_long = refl;
+    scr = refl;
+    first_buffer = refl;
+    second_buffer = refl;
+    sound = a;
+    member = begin-member s (good s v.passed.passed) i h e;
+    above = (playable s v.passed.passed).forest.first_up i;
+    inside = begin-below v.passed i;
+    is = refl;
+    kept = kept-all s (scratch_from s i) zs;
+  }
+
+  pub mix-again : (i : ℕ) → i < count_of s → (row_of (kind s i)).chain ≡ nodes → (c : Controls) (xs cs : List Float) (rs : List ℕ) (zs : List Float) (nv nw : ℕ) (ys ds : List Float) (ss : List ℕ) (ws : List Float) (mv mw j : ℕ) (ys' ds' : List Float) (ss' : List ℕ) (ws' us : List Float) (mv' mw' : ℕ)
+      → scratch s i ≡ 256 → length xs ≤ 256 → scratch_from s (count_of s) ≤ length zs
+      → Mixing s i c xs cs rs zs nv nw ys ds ss ws mv mw j → j ≢ 0 → Sourced s j c (map (λ x. silence) ys) ds ss ws ys' ds' ss' ws'
+      → us ≡ put (scratch_from s i) (length ys') ws' (zip (join_of (kind s i)) (mid (scratch_from s i) (length ys') ws') ys')
+      → length ys' ≡ length ys → length ds' ≡ length ds → length ss' ≡ length ss → length ws' ≡ length ws → length us ≡ length ws' → mv' ≡ mv → mw' ≡ mw
+      → Mixing s i c xs cs rs zs nv nw ys' ds' ss' us mv' mw' (after s j)
+  mix-again i hi e c xs cs rs zs nv nw ys ds ss ws mv mw j ys' ds' ss' ws' us mv' mw' need short room l d r w e1 e2 e3 e4 e5 e6 e7 =
+      let up = l.above d in
+      let at = scratch_from s i in
+      let n = length xs in
+      let op = join_of (kind s i) in
+      let P = playable s v.passed.passed in
+      let l1 : length ys' ≡ n = e1 ∙ l.outs in
+      let l2 : at + 256 ≤ scratch_from s j = omega (arith, P.scratch_apart i j up) in
+      let l3 : at + n ≤ scratch_from s (count_of s) = omega (arith, P.scratch_end i hi) in
+      let l4 : at + n ≤ length ws' = omega (arith, l.scr) in
+      let l5 : n ≤ length (drop at ws') = simp length-drop (omega arith) in
+      let l6 : length (mid at n ws') ≡ n = length-take-le n (drop at ws') l5 in
+      let l7 : length (zip op (mid at n ws') ys') ≡ n = zip_length op (mid at n ws') ys' (l6 ∙ sym l1) ∙ l6 in
+      let k1 : mid at n ws' ≡ mid at n ws = kept-mid r.kept at n (omega (arith, l2)) in
+      let w' : us ≡ put at n ws' (zip op (mid at n ws') ys') = w ∙ ap (λ (m : ℕ). put at m ws' (zip op (mid at m ws') ys')) l1 in
+      let k2 : mid at n us ≡ zip op (mid at n ws) ys' = ap (mid at n) w' ∙ mid-put at n ws' (zip op (mid at n ws') ys') l4 l7 ∙ ap (λ (z : List Float). zip op z ys') k1 in
+      let k3 : length ys ≡ length (mid at n ws) = l.outs ∙ sym (ap length (sym k1) ∙ l6) in
+      record {
+        outs = l1;
+        cells_long = e2 ∙ l.cells_long;
+        registers_long = e3 ∙ l.registers_long;
+        scr = e5 ∙ e4 ∙ l.scr;
+        first_buffer = e6 ∙ l.first_buffer;
+        second_buffer = e7 ∙ l.second_buffer;
+        sound = sound-after v j l.inside c (map (λ x. silence) ys) ds ss ys' ds' ss' l.sound r.is;
+        member = after-member s (good s v.passed.passed) i j hi e (l.member d);
+        above = λ h. omega (arith, up, P.forest.next_up j h);
+        inside = after-below v.passed j;
+        is = ap (λ (z : List Float). along (voice s) (after s j) (joining op) c z (ds', ss')) k2 ∙ mix-turn s v.valid j d l.inside op c (mid at n ws) ys ds ss ys' ds' ss' k3 r.is ∙ l.is;
+        kept = kept_then l.kept (kept_then (kept_less r.kept at (omega (arith, l2))) (rw w' (put-kept s at n ws' (zip op (mid at n ws') ys') l3 l4 l7)));
+      }
+
+  pub mix-end : (i : ℕ) (c : Controls) (xs cs : List Float) (rs : List ℕ) (zs : List Float) (nv nw : ℕ) (ys ds : List Float) (ss : List ℕ) (ws : List Float) (mv mw j : ℕ)
+      → (row_of (kind s i)).chain ≡ nodes → Mixing s i c xs cs rs zs nv nw ys ds ss ws mv mw j → j ≡ 0 → Mixed s i (length xs) c cs rs zs ds ss ws
+  mix-end i c xs cs rs zs nv nw ys ds ss ws mv mw j q l e = record { is = along-end s (joining (join_of (kind s i))) c (mid (scratch_from s i) (length xs) ws) ds ss ∙ rw (e, ← entered-nodes s i q) at l.is; kept = l.kept }

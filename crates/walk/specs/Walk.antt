@@ -150,14 +150,14 @@ put-kept s at n zs vs g h e =
 -- ---- along a chain
 module _ (s : List ℕ) (ok : Valid (voice s)) where
   -- a stage more, and an input more
-  chain-turn : (j : ℕ) → j ≢ 0 → j < count_of s → (c : Controls) (xs cs : List Float) (rs : List ℕ) (ys ds : List Float) (ss : List ℕ)
+  pub chain-turn : (j : ℕ) → j ≢ 0 → j < count_of s → (c : Controls) (xs cs : List Float) (rs : List ℕ) (ys ds : List Float) (ss : List ℕ)
       → ◌≡◌ {A = List Float × Own} (ys, (ds, ss)) (source (voice s) j c xs (cs, rs))
       → along (voice s) (after s j) piping c ys (ds, ss) ≡ along (voice s) j piping c xs (cs, rs)
   unfolding bstep
   chain-turn j d h c xs cs rs ys ds ss e = ap (λ (t : List Float × Own). along (voice s) (after s j) piping c t.0 t.1) e
       ∙ sym (ap (λ (f : M Own (List Float)). f (cs, rs)) (along-some (voice s) ok j d h piping c xs))
 
-  mix-turn : (j : ℕ) → j ≢ 0 → j < count_of s → (op : Float → Float → Float) (c : Controls) (bs xs cs : List Float) (rs : List ℕ) (ys ds : List Float) (ss : List ℕ)
+  pub mix-turn : (j : ℕ) → j ≢ 0 → j < count_of s → (op : Float → Float → Float) (c : Controls) (bs xs cs : List Float) (rs : List ℕ) (ys ds : List Float) (ss : List ℕ)
       → length xs ≡ length bs → ◌≡◌ {A = List Float × Own} (ys, (ds, ss)) (source (voice s) j c (map (λ x. silence) xs) (cs, rs))
       → along (voice s) (after s j) (joining op) c (zip op bs ys) (ds, ss) ≡ along (voice s) j (joining op) c bs (cs, rs)
   unfolding bstep
@@ -166,17 +166,17 @@ module _ (s : List ℕ) (ok : Valid (voice s)) where
       ap (λ (t : List Float × Own). along (voice s) (after s j) (joining op) c (zip op bs t.0) t.1) (e ∙ ap (λ (z : List Float). source (voice s) j c z (cs, rs)) q)
       ∙ sym (ap (λ (f : M Own (List Float)). f (cs, rs)) (along-some (voice s) ok j d h (joining op) c bs))
 
-along-end : (s : List ℕ) (m : Mode Float) (c : Controls) (xs cs : List Float) (rs : List ℕ) → ◌≡◌ {A = List Float × Own} (xs, (cs, rs)) (along (voice s) 0 m c xs (cs, rs))
+pub along-end : (s : List ℕ) (m : Mode Float) (c : Controls) (xs cs : List Float) (rs : List ℕ) → ◌≡◌ {A = List Float × Own} (xs, (cs, rs)) (along (voice s) 0 m c xs (cs, rs))
 along-end s m c xs cs rs = sym (ap (λ (f : M Own (List Float)). f (cs, rs)) (along-none (voice s) m c xs))
 
 -- where the links lead
-entered-nodes : (s : List ℕ) (i : ℕ) → (row_of (kind s i)).chain ≡ nodes → entered s i ≡ begin s i
+pub entered-nodes : (s : List ℕ) (i : ℕ) → (row_of (kind s i)).chain ≡ nodes → entered s i ≡ begin s i
 entered-nodes s i e = rw e
 
-pub begin-below : {s : List ℕ} → Passed s (count_of s) → (i : ℕ) → begin s i < count_of s
+pub begin-below : {s : List ℕ} {count : ℕ} → Passed s count → (i : ℕ) → begin s i < count_of s
 begin-below {s} p i = let w = playable s p.passed in elim (ℕ_discrete (begin s i) 0) [ yes e ↦ rw e w.some | no d ↦ w.begin_low i d ]
 
-pub after-below : {s : List ℕ} → Passed s (count_of s) → (i : ℕ) → after s i < count_of s
+pub after-below : {s : List ℕ} {count : ℕ} → Passed s count → (i : ℕ) → after s i < count_of s
 after-below {s} p i = let w = playable s p.passed in elim (ℕ_discrete (after s i) 0) [ yes e ↦ rw e w.some | no d ↦ w.after_low i d ]
 
 -- THE LOOP OF A CHAIN, OVER THE MODE m: from the block bs and what was lent, the records before j have made the block es, and what is left of
@@ -206,7 +206,7 @@ Chaining s i c pitch xs cs rs zs nv nw ys ds ss ws mv mw j = Walking s i piping 
 abbrev pub Mixing : List ℕ → ℕ → Controls → List Float → List Float → List Float → List ℕ → List Float → ℕ → ℕ → List Float → List Float → List ℕ → List Float → ℕ → ℕ → ℕ → Type 0
 Mixing s i c pitch xs cs rs zs nv nw ys ds ss ws mv mw j = Walking s i (joining (join_of (kind s i))) c pitch (mid (scratch_from s i) (length xs) zs) xs cs rs zs nv nw (mid (scratch_from s i) (length xs) ws) ys ds ss ws mv mw j
 
-scratch-up : {s : List ℕ} → Voiced s → (i j : ℕ) → i < j → scratch_from s i + scratch s i ≤ scratch_from s j
+pub scratch-up : {s : List ℕ} → Voiced s → (i j : ℕ) → i < j → scratch_from s i + scratch s i ≤ scratch_from s j
 scratch-up {s} v i j h = (playable s v.passed.passed).scratch_apart i j h
 
 pub walk-start : {s : List ℕ} {i : ℕ} {m : Mode Float} {c : Controls} {pitch bs xs cs : List Float} {rs : List ℕ} {zs : List Float} {nv nw j : ℕ} → Voiced s → Ready c pitch (length xs) nv nw
@@ -356,7 +356,7 @@ leaf-is s i e d = rw (e, ne_eqb (kind s i) 13 d)
 unfoldable pub left : List ℕ → ℕ → ℕ
 left s j = cond (eqb j 0) 0 (count_of s - j)
 
-pub left_less : {s : List ℕ} → Passed s (count_of s) → (j : ℕ) → j ≢ 0 → j < count_of s → left s (after s j) < left s j
+pub left_less : {s : List ℕ} {count : ℕ} → Passed s count → (j : ℕ) → j ≢ 0 → j < count_of s → left s (after s j) < left s j
 unfolding left
 left_less {s} p j d h = let w = playable s p.passed in elim (ℕ_discrete (after s j) 0) [
   | yes e ↦ rw (e, ne_eqb j 0 d) (omega arith)

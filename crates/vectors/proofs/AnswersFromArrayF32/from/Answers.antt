@@ -25,4 +25,4 @@ returns g c =
     let long : length xs ≡ g.row.N = search rules in
     let count : length (take c.min.result xs) ≡ min c.min.result (length xs) = length-take c.min.result xs in
     let all : c.loop-i.i ≡ min (length (map bits xs)) 20 = omega (arith, long, count, c.min.ensures, c.loop-i.auto.i-end, c.loop-i-test.false, length-map xs bits) in
-    c.loop-i.invariant ∙ padded (map bits xs) c.loop-i.i all
+    record { first = c.loop-i.invariant ∙ padded (map bits xs) c.loop-i.i all; number = omega (arith, long, c.min-2.ensures, length-map xs bits) }

@@ -5,4 +5,7 @@ use Rattle.vectors.proofs.AnswersFromArrayU64.from.Goals as goal
 pub returns : goal.returns
 returns g c =
     let given : c.min-given.result ≡ min (length c.args.xs) 20 = search rules in
-    ap (λ xs. xs ++ drop c.min-given.result (replicate 20 0)) c.copy_from_slice.ensures.after ∙ padded c.args.xs c.min-given.result given
+    record {
+      first = ap (λ xs. xs ++ drop c.min-given.result (replicate 20 0)) c.copy_from_slice.ensures.after ∙ padded c.args.xs c.min-given.result given;
+      number = given;
+    }
