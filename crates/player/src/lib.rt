@@ -19,13 +19,24 @@ use tables::Tables;
 // longer than a short fill of its voice.
 const SHORT: usize = 984;
 
+// With tables for N records in its own frame.
+fn needs_with<const N: usize, const M: usize>(sheet: &[u8]) -> Result<Needs, Refusal>
+    requires { Rows sheet.now N × (N < M) × (M ≤ 257) }
+    ensures { needed_by result ≡ needed_of sheet.now }
+{
+    let mut t = Tables::<N, M>::new();
+    let m = tables::measure(sheet, &mut t)?;
+    Ok(m.needs)
+}
+
 // How much memory the sheet needs to be lent.
 pub fn needs(sheet: &[u8]) -> Result<Needs, Refusal>
     ensures { needed_by result ≡ needed_of sheet.now }
 {
-    let mut t = Tables::<256, 257>::new();
-    let m = tables::measure(sheet, &mut t)?;
-    Ok(m.needs)
+    if sheet.len() <= SHORT {
+        return needs_with::<24, 25>(sheet);
+    }
+    needs_with::<256, 257>(sheet)
 }
 
 // ---- fill
@@ -113,6 +124,21 @@ pub fn cutoff(
 
 // ---- build
 
+fn build_with<const N: usize, const M: usize>(
+    sheet: &[u8],
+    c: Controls,
+    cells: &mut [f32],
+    regs: &mut [u64],
+    scr: &mut [f32],
+) -> Result<Controls, Refusal>
+    requires { Rows sheet.now N × (N < M) × (M ≤ 257) }
+    ensures { Builds sheet.now c cells.old regs.old scr.old (answer_of result) (controls_of c result) cells.new regs.new scr.new }
+{
+    let mut t = Tables::<N, M>::new();
+    let p = prepare::prepare(sheet, cells.len(), regs.len(), scr.len(), &mut t)?;
+    Ok(calls::begin(sheet, p.count, p.scratch, &t, c, cells, regs, scr))
+}
+
 // A voice at its start, with fresh controls.
 pub fn build(
     sheet: &[u8],
@@ -123,7 +149,8 @@ pub fn build(
 ) -> Result<Controls, Refusal>
     ensures { Builds sheet.now c cells.old regs.old scr.old (answer_of result) (controls_of c result) cells.new regs.new scr.new }
 {
-    let mut t = Tables::<256, 257>::new();
-    let p = prepare::prepare(sheet, cells.len(), regs.len(), scr.len(), &mut t)?;
-    Ok(calls::begin(sheet, p.count, p.scratch, &t, c, cells, regs, scr))
+    if sheet.len() <= SHORT {
+        return build_with::<24, 25>(sheet, c, cells, regs, scr);
+    }
+    build_with::<256, 257>(sheet, c, cells, regs, scr)
 }

@@ -1,8 +1,6 @@
-use Rattle.std.proofs.Common.{sym, ◌∙◌, rules}
-use Rattle.std.proofs.lemmas.Result.{err_from_is_err_and, IfOk-at_ok}
-use Rattle.refusal.specs.Refusal.{answer-ok, answer-err, passed-on}
-use Rattle.tables.specs.Tables.{Made}
-use Rattle.prepare.specs.declared.Ready.{Ready}
+use Rattle.std.proofs.Common.{◌∙◌, rules}
+use Rattle.std.proofs.lemmas.Result.{err_from_is_err_and}
+use Rattle.refusal.specs.Refusal.{answer-err, passed-on}
 use Rattle.machine.proofs.Laws.{room-enough, room-passed}
 use Rattle.calls.specs.Calls.{cuts-refused, cuts-all}
 use Rattle.player.proofs.Prepared.{ready}

@@ -1,11 +1,6 @@
-use Rattle.std.specs.Prelude.{◌≡◌}
-use Rattle.std.proofs.Common.{sym, ◌∙◌, rules}
-use Rattle.std.proofs.lemmas.Result.{err_from_is_err_and, IfOk-at_ok}
-use Rattle.refusal.specs.Refusal.{answer-ok, answer-err, passed-on}
-use Rattle.sheet.specs.Record.{count_of}
-use Rattle.layout.specs.Needs.{scratch_from}
-use Rattle.tables.specs.Tables.{Made}
-use Rattle.prepare.specs.declared.Ready.{Ready}
+use Rattle.std.proofs.Common.{◌∙◌, rules}
+use Rattle.std.proofs.lemmas.Result.{err_from_is_err_and}
+use Rattle.refusal.specs.Refusal.{answer-err, passed-on}
 use Rattle.calls.specs.Calls.{controls-err, fills-room}
 use Rattle.player.proofs.Prepared.{ready}
 use Rattle.player.proofs.fill_with.Goals as goal
