@@ -1,4 +1,5 @@
--- What the proof of `f64_to_f32` cites beside `Normal`: where the exponent's field alone says that the nearest f32 is a zero or an infinity, whose bit pattern is a constant and the digit of x's sign; and which x is left between the two.
+-- What the proof of `f64_to_f32` cites beside `Normal`: where the exponent's field alone says that the nearest f32 is a zero or an infinity,
+-- whose bit pattern is a constant and the digit of x's sign; and which x is left between the two.
 use Rattle.std.proofs.Common.{◌≡◌, ℕ, ◌+◌, ◌*◌, ◌/◌, ◌%◌, ◌^◌, ◌<◌, Bool, true, false, cond, not, T, ◌⊎◌, pos, sym, refl, ap, ◌∙◌, subst, inl, inr, lt_of_lt_of_le, le_of_lt, lt_irrefl, mod-lt, arith, lit<, pow_pos, T_not}
 use lib.Ieee.{Float, nan, inf, fin, binary32, binary64, neg, lt, fits, is_nan, nan_bits, of_bits, to_bits}
 use lib.Ieee.Fits.{neg-fits}

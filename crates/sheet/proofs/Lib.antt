@@ -1,1 +1,1 @@
-mod Entries
+pub mod Entries

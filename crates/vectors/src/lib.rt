@@ -281,6 +281,8 @@ pub fn tally_of<A: Into<Answers>, F: Fn(Operands) -> A>(
     ensures { IfOk result (λ o. IfSome o (λ t. (t.answers ≡ cases * max shape.answers 1) × (t.differ ≤ t.answers))) }
 {
     if cases == 0 {
+        // The first case is looked for all the same: where its reading fails, that is what ends the run.
+        next_operands(input, shape)?;
         return Ok(None);
     }
     let mut tally = Tally::NONE;
