@@ -11,6 +11,7 @@ ghost use Rattle.unit.specs.Unit.{kind_unit};
 ghost use Rattle.unit.specs.Block.{steps, Lent};
 ghost use Rattle.block_bench.specs.State.{rand_of, playing};
 
+use refusal::Refusal;
 use sheet::kinds::{Kind, Src, Val};
 
 #[unsafe(no_mangle)]
@@ -120,7 +121,8 @@ fn copy_kinds(sheet: &[u8], n: usize, kinds: &mut [u8])
 }
 
 // With a table for the kinds themselves, of which it takes as many as there are numbers, 256 at most. There is no heap, so its caller
-// makes it, of fixed length. Checks 1 and 2 come before any record; after the others all three tables are filled, whatever the answer.
+// makes it, of fixed length. The checks of the length and of the header come before any record; after them all three
+// tables are filled, whatever the answer.
 fn check_in(
     sheet: &[u8],
     table: &mut [Kind],
@@ -132,13 +134,13 @@ fn check_in(
     ensures { Checked sheet.now kinds.new first.new next.new result }
 {
     let n = kinds.len().min(256);
-    let answer = refusal::answer(checks::check(sheet, &mut table[..n], first, next));
-    if (answer == 1) | (answer == 2) {
-        return answer;
+    let outcome = checks::check(sheet, &mut table[..n], first, next);
+    if let Err(Refusal::Length | Refusal::Header) = outcome {
+        return refusal::answer(outcome);
     }
     let records = sheet.len().saturating_sub(24) / 40;
     copy_kinds(sheet, records.min(n), kinds);
-    answer
+    refusal::answer(outcome)
 }
 
 // The checks of a sheet, for `block_arp`: where they find no fault, 0, next is its table. C has no `Kind`, so the kinds are their numbers.
@@ -152,6 +154,7 @@ pub extern "C" fn block_check(
     requires { Rows sheet.now (length kinds.old) × (length kinds.old ≤ length first.old) × (length kinds.old ≤ length next.old) }
     ensures { Checked sheet.now kinds.new first.new next.new result }
 {
+    // Zeros, as in `tables::Tables`: cleared where they lie.
     let mut table = [Kind::Src(Src::Sine); 256];
     check_in(sheet, &mut table, kinds, first, next)
 }

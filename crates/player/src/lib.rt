@@ -19,7 +19,7 @@ use tables::Tables;
 // longer than a short fill of its voice.
 const SHORT: usize = 984;
 
-// With tables for N records in its own frame.
+// With tables for N records in its own frame, of which a short sheet has no large ones.
 fn needs_with<const N: usize, const M: usize>(sheet: &[u8]) -> Result<Needs, Refusal>
     requires { Rows sheet.now N × (N < M) × (M ≤ 257) }
     ensures { needed_by result ≡ needed_of sheet.now }
@@ -124,6 +124,7 @@ pub fn cutoff(
 
 // ---- build
 
+// With tables for N records in its own frame.
 fn build_with<const N: usize, const M: usize>(
     sheet: &[u8],
     c: Controls,

@@ -9,6 +9,7 @@ use Rattle.layout.specs.Tables.{Table, Listed, roles_of}
 use Rattle.plan.specs.Planned.{Planned}
 use Rattle.tables.specs.declared.Tables.{Tables}
 
+-- tables of which nothing is set yet; what stands in them then is never read
 abbrev pub blank : {N M : ℕ} → Tables N M
 blank {N} {M} = record { kinds = replicate N (Src Sine); firsts = replicate N 0; nexts = replicate N 0; lasts = replicate N false; acts = replicate N Out; begins = replicate N 0; afters = replicate N 0; places = replicate M 0; words = replicate M 0; blocks = replicate M 0 }
 

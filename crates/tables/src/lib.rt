@@ -32,6 +32,8 @@ pub struct Tables<const N: usize, const M: usize> {
 }
 
 impl<const N: usize, const M: usize> Tables<N, M> {
+    // The kind that stands everywhere is the one whose bytes are zeros, so that the compiler clears the tables where they lie: with another it makes 15 KB
+    // beside them and copies them.
     pub fn new() -> Self
         ensures { result ≡ blank }
     {

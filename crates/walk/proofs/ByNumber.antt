@@ -6,9 +6,9 @@ use Rattle.std.proofs.Common.{sym, ap, ◌∙◌, arith, eq-eqb, leb-true, lengt
 use Rattle.std.proofs.Math.ListN.{length-drop}
 use Rattle.std.proofs.Math.Seq.{length-take-le}
 use Rattle.tree.specs.Comm.{zip}
-use Rattle.tree.specs.Tree.{piping, joining}
+use Rattle.tree.specs.Tree.{Mode, piping, joining}
 use Rattle.tree.specs.Lists.{zip_length}
-use Rattle.block.specs.Patch.{along}
+use Rattle.block.specs.Patch.{source, along}
 use Rattle.control.specs.declared.Controls.{Controls}
 use Rattle.sheet.specs.Record.{count_of, kind}
 use Rattle.sheet.specs.Kinds.{nodes, row_of, is_fold, is_value}
@@ -22,7 +22,7 @@ use Rattle.layout.specs.Tables.{Table, Passed, role_code}
 use Rattle.layout.specs.Counts.{cells-built, registers-built}
 use Rattle.layout.proofs.Contents.{Value}
 use Rattle.layout.proofs.Laws.{playable}
-use Rattle.unit.specs.Own.{silence}
+use Rattle.unit.specs.Own.{Own, silence}
 use Rattle.unit.specs.Voice.{voice, join_of}
 use Rattle.unit.specs.Block.{Lent}
 use Rattle.units.specs.Values.{has_unit}
@@ -127,9 +127,9 @@ pub record Scratch (s : List ℕ) (count : ℕ) (blocks : List ℕ) (n : ℕ) : 
 pub scratch-same : {s : List ℕ} {count : ℕ} {blocks : List ℕ} {n : ℕ} → Scratch s count blocks n → {m : ℕ} → m ≡ n → Scratch s count blocks m
 scratch-same r p = rw p r
 
--- ---- the loops along a chain, whatever the pitch, the position and the buffers are: the lengths, and what is sound, as a loop goes along. A Chain's
--- block may have any length, and that of a Mix or a Mul any that its block of scratch holds.
-pub record Chaining (s : List ℕ) (i : ℕ) (c : Controls) (xs cs : List Float) (rs : List ℕ) (zs : List Float) (nv nw : ℕ) (ys ds : List Float) (ss : List ℕ) (ws : List Float) (mv mw j : ℕ) : Type 0 where
+-- ---- the loops along a chain, over the mode m, whatever the pitch, the position and the buffers are: the lengths, and what is sound, as a loop goes
+-- along. A Chain's block may have any length, and that of a Mix or a Mul any that its block of scratch holds.
+pub record Looping (s : List ℕ) (i : ℕ) (m : Mode Float) (c : Controls) (bs xs cs : List Float) (rs : List ℕ) (zs : List Float) (nv nw : ℕ) (es ys ds : List Float) (ss : List ℕ) (ws : List Float) (mv mw j : ℕ) : Type 0 where
   pub outs : length ys ≡ length xs
   pub cells_long : length ds ≡ length cs
   pub registers_long : length ss ≡ length rs
@@ -140,12 +140,18 @@ pub record Chaining (s : List ℕ) (i : ℕ) (c : Controls) (xs cs : List Float)
   pub member : j ≢ 0 → Member s i j
   pub above : j ≢ 0 → i < j
   pub inside : j < count_of s
-  pub is : along (voice s) j piping c ys (ds, ss) ≡ along (voice s) (begin s i) piping c xs (cs, rs)
+  pub is : along (voice s) j m c es (ds, ss) ≡ along (voice s) (begin s i) m c bs (cs, rs)
   pub kept : Kept s (scratch_from s i) zs ws
 
+abbrev pub Chaining : List ℕ → ℕ → Controls → List Float → List Float → List ℕ → List Float → ℕ → ℕ → List Float → List Float → List ℕ → List Float → ℕ → ℕ → ℕ → Type 0
+Chaining s i c xs cs rs zs nv nw ys ds ss ws mv mw j = Looping s i piping c xs xs cs rs zs nv nw ys ys ds ss ws mv mw j
+
+abbrev pub Mixing : List ℕ → ℕ → Controls → List Float → List Float → List ℕ → List Float → ℕ → ℕ → List Float → List Float → List ℕ → List Float → ℕ → ℕ → ℕ → Type 0
+Mixing s i c xs cs rs zs nv nw ys ds ss ws mv mw j = Looping s i (joining (join_of (kind s i))) c (mid (scratch_from s i) (length xs) zs) xs cs rs zs nv nw (mid (scratch_from s i) (length xs) ws) ys ds ss ws mv mw j
+
 module _ {s : List ℕ} (v : Voiced s) where
-  pub chain-start : (i : ℕ) → i < count_of s → (row_of (kind s i)).chain ≡ nodes → (c : Controls) (xs cs : List Float) (rs : List ℕ) (zs : List Float) (nv nw : ℕ) → Sound s cs rs → Chaining s i c xs cs rs zs nv nw xs cs rs zs nv nw (begin s i)
-  chain-start i h e c xs cs rs zs nv nw a = record {
+  loop-start : (i : ℕ) → i < count_of s → (row_of (kind s i)).chain ≡ nodes → (m : Mode Float) (c : Controls) (bs xs cs : List Float) (rs : List ℕ) (zs : List Float) (nv nw : ℕ) → Sound s cs rs → Looping s i m c bs xs cs rs zs nv nw bs xs cs rs zs nv nw (begin s i)
+  loop-start i h e m c bs xs cs rs zs nv nw a = record {
     outs = refl;
     cells_long = refl;
     registers_long = refl;
@@ -160,11 +166,13 @@ module _ {s : List ℕ} (v : Voiced s) where
     kept = kept-all s (scratch_from s i) zs;
   }
 
-  pub chain-again : (i : ℕ) → i < count_of s → (row_of (kind s i)).chain ≡ nodes → (c : Controls) (xs cs : List Float) (rs : List ℕ) (zs : List Float) (nv nw : ℕ) (ys ds : List Float) (ss : List ℕ) (ws : List Float) (mv mw j : ℕ) (ys' ds' : List Float) (ss' : List ℕ) (ws' : List Float) (mv' mw' : ℕ)
-      → Chaining s i c xs cs rs zs nv nw ys ds ss ws mv mw j → j ≢ 0 → Sourced s j c ys ds ss ws ys' ds' ss' ws'
-      → length ys' ≡ length ys → length ds' ≡ length ds → length ss' ≡ length ss → length ws' ≡ length ws → mv' ≡ mv → mw' ≡ mw
-      → Chaining s i c xs cs rs zs nv nw ys' ds' ss' ws' mv' mw' (after s j)
-  chain-again i hi e c xs cs rs zs nv nw ys ds ss ws mv mw j ys' ds' ss' ws' mv' mw' l d r e1 e2 e3 e4 e5 e6 =
+  -- a record more, which played xs': it leaves ds' and ss', and then es' and the scratch us
+  loop-on : (i : ℕ) → i < count_of s → (row_of (kind s i)).chain ≡ nodes → {m : Mode Float} (c : Controls) {bs xs cs : List Float} {rs : List ℕ} {zs : List Float} {nv nw : ℕ} {es ys : List Float} (ds : List Float) (ss : List ℕ) {ws : List Float} {mv mw : ℕ} (j : ℕ)
+      (es' xs' ys' ds' : List Float) (ss' : List ℕ) (us : List Float) (mv' mw' : ℕ) → Looping s i m c bs xs cs rs zs nv nw es ys ds ss ws mv mw j → j ≢ 0
+      → ◌≡◌ {A = List Float × Own} (ys', (ds', ss')) (source (voice s) j c xs' (ds, ss)) → along (voice s) (after s j) m c es' (ds', ss') ≡ along (voice s) j m c es (ds, ss)
+      → Kept s (scratch_from s i) ws us → length ys' ≡ length ys → length ds' ≡ length ds → length ss' ≡ length ss → length us ≡ length ws → mv' ≡ mv → mw' ≡ mw
+      → Looping s i m c bs xs cs rs zs nv nw es' ys' ds' ss' us mv' mw' (after s j)
+  loop-on i hi e c ds ss j es' xs' ys' ds' ss' us mv' mw' l d r a w e1 e2 e3 e4 e5 e6 =
       let up = l.above d in
       record {
         outs = e1 ∙ l.outs;
@@ -173,48 +181,31 @@ module _ {s : List ℕ} (v : Voiced s) where
         scr = e4 ∙ l.scr;
         first_buffer = e5 ∙ l.first_buffer;
         second_buffer = e6 ∙ l.second_buffer;
-        sound = sound-after v j l.inside c ys ds ss ys' ds' ss' l.sound r.is;
+        sound = sound-after v j l.inside c xs' ds ss ys' ds' ss' l.sound r;
         member = after-member s (good s v.passed.passed) i j hi e (l.member d);
         above = λ h. omega (arith, up, (playable s v.passed.passed).forest.next_up j h);
         inside = after-below v.passed j;
-        is = chain-turn s v.valid j d l.inside c ys ds ss ys' ds' ss' r.is ∙ l.is;
-        kept = kept_then l.kept (kept_less r.kept (scratch_from s i) (omega (arith, scratch-up v i j up)));
+        is = a ∙ l.is;
+        kept = kept_then l.kept w;
       }
+
+  pub chain-start : (i : ℕ) → i < count_of s → (row_of (kind s i)).chain ≡ nodes → (c : Controls) (xs cs : List Float) (rs : List ℕ) (zs : List Float) (nv nw : ℕ) → Sound s cs rs → Chaining s i c xs cs rs zs nv nw xs cs rs zs nv nw (begin s i)
+  chain-start i h e c xs cs rs zs nv nw a = loop-start i h e piping c xs xs cs rs zs nv nw a
+
+  pub chain-again : (i : ℕ) → i < count_of s → (row_of (kind s i)).chain ≡ nodes → (c : Controls) (xs cs : List Float) (rs : List ℕ) (zs : List Float) (nv nw : ℕ) (ys ds : List Float) (ss : List ℕ) (ws : List Float) (mv mw j : ℕ) (ys' ds' : List Float) (ss' : List ℕ) (ws' : List Float) (mv' mw' : ℕ)
+      → Chaining s i c xs cs rs zs nv nw ys ds ss ws mv mw j → j ≢ 0 → Sourced s j c ys ds ss ws ys' ds' ss' ws'
+      → length ys' ≡ length ys → length ds' ≡ length ds → length ss' ≡ length ss → length ws' ≡ length ws → mv' ≡ mv → mw' ≡ mw
+      → Chaining s i c xs cs rs zs nv nw ys' ds' ss' ws' mv' mw' (after s j)
+  chain-again i hi e c xs cs rs zs nv nw ys ds ss ws mv mw j ys' ds' ss' ws' mv' mw' l d r e1 e2 e3 e4 e5 e6 =
+      loop-on i hi e c ds ss j ys' ys ys' ds' ss' ws' mv' mw' l d r.is (chain-turn s v.valid j d l.inside c ys ds ss ys' ds' ss' r.is)
+      (kept_less r.kept (scratch_from s i) (omega (arith, scratch-up v i j (l.above d)))) e1 e2 e3 e4 e5 e6
 
   pub chain-end : (i : ℕ) (c : Controls) (xs cs : List Float) (rs : List ℕ) (zs : List Float) (nv nw : ℕ) (ys ds : List Float) (ss : List ℕ) (ws : List Float) (mv mw j : ℕ)
       → (row_of (kind s i)).chain ≡ nodes → Chaining s i c xs cs rs zs nv nw ys ds ss ws mv mw j → j ≡ 0 → Chained s i c xs cs rs zs ys ds ss ws
   chain-end i c xs cs rs zs nv nw ys ds ss ws mv mw j q l e = record { is = along-end s piping c ys ds ss ∙ rw (e, ← entered-nodes s i q) at l.is; kept = l.kept }
 
-pub record Mixing (s : List ℕ) (i : ℕ) (c : Controls) (xs cs : List Float) (rs : List ℕ) (zs : List Float) (nv nw : ℕ) (ys ds : List Float) (ss : List ℕ) (ws : List Float) (mv mw j : ℕ) : Type 0 where
-  pub outs : length ys ≡ length xs
-  pub cells_long : length ds ≡ length cs
-  pub registers_long : length ss ≡ length rs
-  pub scr : length ws ≡ length zs
-  pub first_buffer : mv ≡ nv
-  pub second_buffer : mw ≡ nw
-  pub sound : Sound s ds ss
-  pub member : j ≢ 0 → Member s i j
-  pub above : j ≢ 0 → i < j
-  pub inside : j < count_of s
-  pub is : along (voice s) j (joining (join_of (kind s i))) c (mid (scratch_from s i) (length xs) ws) (ds, ss) ≡ along (voice s) (begin s i) (joining (join_of (kind s i))) c (mid (scratch_from s i) (length xs) zs) (cs, rs)
-  pub kept : Kept s (scratch_from s i) zs ws
-
-module _ {s : List ℕ} (v : Voiced s) where
   pub mix-start : (i : ℕ) → i < count_of s → (row_of (kind s i)).chain ≡ nodes → (c : Controls) (xs cs : List Float) (rs : List ℕ) (zs : List Float) (nv nw : ℕ) → Sound s cs rs → Mixing s i c xs cs rs zs nv nw xs cs rs zs nv nw (begin s i)
-  mix-start i h e c xs cs rs zs nv nw a = record {
-    outs = refl;
-    cells_long = refl;
-    registers_long = refl;
-    scr = refl;
-    first_buffer = refl;
-    second_buffer = refl;
-    sound = a;
-    member = begin-member s (good s v.passed.passed) i h e;
-    above = (playable s v.passed.passed).forest.first_up i;
-    inside = begin-below v.passed i;
-    is = refl;
-    kept = kept-all s (scratch_from s i) zs;
-  }
+  mix-start i h e c xs cs rs zs nv nw a = loop-start i h e (joining (join_of (kind s i))) c (mid (scratch_from s i) (length xs) zs) xs cs rs zs nv nw a
 
   pub mix-again : (i : ℕ) → i < count_of s → (row_of (kind s i)).chain ≡ nodes → (c : Controls) (xs cs : List Float) (rs : List ℕ) (zs : List Float) (nv nw : ℕ) (ys ds : List Float) (ss : List ℕ) (ws : List Float) (mv mw j : ℕ) (ys' ds' : List Float) (ss' : List ℕ) (ws' us : List Float) (mv' mw' : ℕ)
       → scratch s i ≡ 256 → length xs ≤ 256 → scratch_from s (count_of s) ≤ length zs
@@ -239,20 +230,9 @@ module _ {s : List ℕ} (v : Voiced s) where
       let w' : us ≡ put at n ws' (zip op (mid at n ws') ys') = w ∙ ap (λ (m : ℕ). put at m ws' (zip op (mid at m ws') ys')) l1 in
       let k2 : mid at n us ≡ zip op (mid at n ws) ys' = ap (mid at n) w' ∙ mid-put at n ws' (zip op (mid at n ws') ys') l4 l7 ∙ ap (λ (z : List Float). zip op z ys') k1 in
       let k3 : length ys ≡ length (mid at n ws) = l.outs ∙ sym (ap length (sym k1) ∙ l6) in
-      record {
-        outs = l1;
-        cells_long = e2 ∙ l.cells_long;
-        registers_long = e3 ∙ l.registers_long;
-        scr = e5 ∙ e4 ∙ l.scr;
-        first_buffer = e6 ∙ l.first_buffer;
-        second_buffer = e7 ∙ l.second_buffer;
-        sound = sound-after v j l.inside c (map (λ x. silence) ys) ds ss ys' ds' ss' l.sound r.is;
-        member = after-member s (good s v.passed.passed) i j hi e (l.member d);
-        above = λ h. omega (arith, up, P.forest.next_up j h);
-        inside = after-below v.passed j;
-        is = ap (λ (z : List Float). along (voice s) (after s j) (joining op) c z (ds', ss')) k2 ∙ mix-turn s v.valid j d l.inside op c (mid at n ws) ys ds ss ys' ds' ss' k3 r.is ∙ l.is;
-        kept = kept_then l.kept (kept_then (kept_less r.kept at (omega (arith, l2))) (rw w' (put-kept s at n ws' (zip op (mid at n ws') ys') l3 l4 l7)));
-      }
+      loop-on i hi e c ds ss j (mid at n us) (map (λ x. silence) ys) ys' ds' ss' us mv' mw' l d r.is
+      (ap (λ (z : List Float). along (voice s) (after s j) (joining op) c z (ds', ss')) k2 ∙ mix-turn s v.valid j d l.inside op c (mid at n ws) ys ds ss ys' ds' ss' k3 r.is)
+      (kept_then (kept_less r.kept at (omega (arith, l2))) (rw w' (put-kept s at n ws' (zip op (mid at n ws') ys') l3 l4 l7))) e1 e2 e3 (e5 ∙ e4) e6 e7
 
   pub mix-end : (i : ℕ) (c : Controls) (xs cs : List Float) (rs : List ℕ) (zs : List Float) (nv nw : ℕ) (ys ds : List Float) (ss : List ℕ) (ws : List Float) (mv mw j : ℕ)
       → (row_of (kind s i)).chain ≡ nodes → Mixing s i c xs cs rs zs nv nw ys ds ss ws mv mw j → j ≡ 0 → Mixed s i (length xs) c cs rs zs ds ss ws
